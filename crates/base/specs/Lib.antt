@@ -1,0 +1,4 @@
+pub mod Answer
+pub mod Lists
+pub mod Outcome
+pub mod Table

@@ -1,0 +1,45 @@
+-- Tables as lists of numbers: what stands at an index, what a store changes, and a table read as a function.
+use mathlib.Core.Path.{_≡_, refl, sym, _∙_, fun-ext}
+use mathlib.Core.Logic.{_≢_}
+use mathlib.Core.Bool.{Bool, true, false, cond}
+use mathlib.Core.List.{List}
+use Prim.Native.Nat.{ℕ, _<_}
+use lib.Dec.{T, eqb, eqb-refl}
+use lib.ListN.{length, getD, set}
+use lib.Seq.{getD-set-same, getD-set-other}
+use borrow.Author.Tests.{eq-eqb, ne-eqb}
+use native.Mathlib.Decide.{ℕ-discrete}
+use native.Mathlib.Omega.{arith}
+
+-- a table's number
+abbrev pub at : List ℕ → ℕ → ℕ
+at l i = getD l i 0
+
+-- a function changed at one number
+unfoldable pub upd {ℓ} : {A : Type ℓ} → (ℕ → A) → ℕ → A → ℕ → A
+upd f i v j = cond (eqb j i) v (f j)
+
+-- two numbers are equal or not, with the equation in each case
+pub at-or {ℓ} : {C : Type ℓ} (j i : ℕ) → (j ≡ i → C) → (j ≢ i → C) → C
+at-or j i f g = elim (ℕ-discrete j i) [ yes p ↦ f p | no q ↦ g q ]
+
+-- from two constructors that cannot be equal, anything: write `clash (cc)`
+pub clash {ℓ} : {C : Type ℓ} → _≡_ {A = ℕ} 0 1 → C
+clash e = absurd (omega arith)
+
+module _ {ℓ} {A : Type ℓ} (f : ℕ → A) (i : ℕ) (v : A) where
+  pub upd-same : upd f i v i ≡ v
+  unfolding upd
+  upd-same = rw (eq-eqb i i refl)
+
+  pub upd-other : (j : ℕ) → j ≢ i → upd f i v j ≡ f j
+  unfolding upd
+  upd-other j h = rw (ne-eqb j i h)
+
+module _ {ℓ} {A : Type ℓ} (l : List A) (i : ℕ) (v d : A) where
+  -- a store in range changes the table, read as a function, at one number
+  pub at-set : i < length l → (λ (j : ℕ). getD (set l i v) j d) ≡ upd (λ (j : ℕ). getD l j d) i v
+  at-set h =
+      fun-ext λ j. at-or j i
+      (λ q. rw (q, upd-same (λ (j : ℕ). getD l j d) i v) (getD-set-same l i v d h))
+      (λ q. rw (upd-other (λ (j : ℕ). getD l j d) i v j q) (getD-set-other l i j v d q))

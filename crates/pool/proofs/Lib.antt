@@ -1,0 +1,2 @@
+mod Refill
+pub mod Laws
