@@ -3,11 +3,11 @@ use mathlib.Core.Path.{_≡_, refl, sym, _∙_, fun-ext}
 use mathlib.Core.Logic.{_≢_}
 use mathlib.Core.Bool.{Bool, true, false, cond}
 use mathlib.Core.List.{List}
-use Prim.Native.Nat.{ℕ, _<_}
-use lib.Dec.{T, eqb, eqb-refl}
+use Prim.Native.Nat.{ℕ, _<_, _≤_}
+use lib.Dec.{eqb, ltb}
 use lib.ListN.{length, getD, set}
 use lib.Seq.{getD-set-same, getD-set-other}
-use borrow.Author.Tests.{eq-eqb, ne-eqb}
+use borrow.Author.Tests.{eq-eqb, ne-eqb, lt-ltb}
 use native.Mathlib.Decide.{ℕ-discrete}
 use native.Mathlib.Omega.{arith}
 
@@ -43,3 +43,11 @@ module _ {ℓ} {A : Type ℓ} (l : List A) (i : ℕ) (v d : A) where
       fun-ext λ j. at-or j i
       (λ q. rw (q, upd-same (λ (j : ℕ). getD l j d) i v) (getD-set-same l i v d h))
       (λ q. rw (upd-other (λ (j : ℕ). getD l j d) i v j q) (getD-set-other l i j v d q))
+
+-- two tables together
+abbrev pub both : List ℕ → List ℕ → List ℕ × List ℕ
+both a b = (a, b)
+
+-- at most n, and not n: the test that is left is `below`
+pub short-of : (b n : ℕ) → b ≤ n → b ≢ n → ltb b n ≡ true
+short-of b n h k = lt-ltb b n (omega arith)

@@ -27,9 +27,6 @@ pub record Shifted : Type 0 where
   pub current : List ℕ
   pub previous : List ℕ
 
-abbrev pub placesOf : List ℕ → List ℕ → List ℕ × List ℕ
-placesOf c p = (c, p)
-
 -- The current place of entry i becomes its previous one, then the place p its current one.
 unfoldable pub shift : List ℕ → List ℕ → ℕ → Place → Outcome Shifted
 shift current previous i p =

@@ -1,2 +1,3 @@
-mod Refill
+pub mod Answers
 pub mod Laws
+mod Refill

@@ -1,0 +1,11 @@
+mod Leaving
+mod Pick
+mod Signs
+pub mod Chains
+pub mod Counts
+pub mod Empty
+pub mod Lower
+pub mod Push
+pub mod Return
+pub mod Unlink
+pub mod Walked

@@ -1,0 +1,68 @@
+-- delete_tuple does what `delete` says: one case for each return, by the tests that led there.
+use borrow.Author.Tests.{le-ltb, lt-ltb, not-false, not-true}
+use Rattle.base.specs.Outcome.{need, tells, leaves}
+use Rattle.cells.specs.Tuple.{delete, needSlot}
+use mathlib.Core.Path.{sym, _∙_}
+use mir.Syntax.{w32}
+use mir.ValLaws.{toZ-ofZ}
+use Rattle.cells.proofs.Signs.{range-below}
+use borrow.Author.Needs.{needs}
+use Rattle.cells.proofs.tuple.delete_tuple.Statement.{statement}
+use Rattle.cells.proofs.tuple.delete_tuple.Tie as tie
+
+returns : tie.Need-returns
+unfolding delete needSlot need tells leaves
+returns c = rw (le-ltb _ _ (c .if1 .taken))
+
+returns-2 : tie.Need-returns-2
+unfolding delete needSlot need tells leaves
+returns-2 c = rw (lt-ltb _ _ (c .before .if1 .left), le-ltb _ _ (c .if2 .taken))
+
+in-range-requires : tie.Need-in-range-requires
+in-range-requires c κs = search needs
+
+returns-3 : tie.Need-returns-3
+unfolding delete needSlot need tells leaves
+returns-3 c = rw (lt-ltb _ _ (c .before .before .before .if1 .left), lt-ltb _ _ (c .before .before .if2 .left), sym (c .before .in-range .ensures) ∙ not-true (c .before .in-range .result) (c .if3 .taken))
+
+mul-i : tie.Need-mul-i
+mul-i c = search needs
+
+add-i : tie.Need-add-i
+add-i c = search needs
+
+cast-i : tie.Need-cast-i
+cast-i c = search needs
+
+deleted-stamp-requires : tie.Need-deleted-stamp-requires
+deleted-stamp-requires c κs = range-below _ (sym (c .before .in-range .ensures) ∙ not-false (c .before .in-range .result) (c .if3 .left))
+
+mul-s : tie.Need-mul-s
+mul-s c = search needs
+
+slice-set-from-s : tie.Need-slice-set-from-s
+slice-set-from-s c = search needs
+
+same-length : tie.Need-same-length
+same-length c = search needs
+
+returns-4 : tie.Need-returns-4
+unfolding delete needSlot need tells leaves
+returns-4 c = rw (lt-ltb _ _ (c .before .before .before .before .if1 .left), lt-ltb _ _ (c .before .before .before .if2 .left), sym (c .before .before .in-range .ensures) ∙ not-false (c .before .before .in-range .result) (c .before .if3 .left), toZ-ofZ w32 _ (record { sfits = c .deleted-stamp .ok }), c .deleted-stamp .ensures)
+
+pub delete-tuple-spec : {M : Type 1} → statement M
+delete-tuple-spec =
+    tie.close
+    (tie.spec
+    returns
+    returns-2
+    in-range-requires
+    returns-3
+    mul-i
+    add-i
+    cast-i
+    deleted-stamp-requires
+    mul-s
+    slice-set-from-s
+    same-length
+    returns-4)

@@ -1,0 +1,5 @@
+pub mod Answers
+pub mod Known
+pub mod Map
+pub mod Probe
+pub mod Product

@@ -1,0 +1,38 @@
+-- `check_corners` answers as `corners` does: one case for each return, by the tests that led there and what `on_grid` ensures.
+use borrow.Author.Tests.{le-leb, lt-leb, not-false, not-true}
+use Rattle.base.specs.Outcome.{pick}
+use Rattle.layout.specs.Question.{corners, cornersOn, ordered}
+use borrow.Author.Needs.{needs}
+use Rattle.layout.proofs.question.check_corners.Statement.{statement}
+use Rattle.layout.proofs.question.check_corners.Tie as tie
+
+on-grid-requires : tie.Need-on-grid-requires
+on-grid-requires c κs = search needs
+
+returns : tie.Need-returns
+unfolding corners cornersOn ordered pick
+returns c = rw (← c .before .on-grid .ensures, not-true (c .before .on-grid .result) (c .if1 .taken))
+
+on-grid-requires-2 : tie.Need-on-grid-requires-2
+on-grid-requires-2 c κs = search needs
+
+returns-2 : tie.Need-returns-2
+unfolding corners cornersOn ordered pick
+returns-2 c = rw (← c .before .before .before .on-grid .ensures, not-false (c .before .before .before .on-grid .result) (c .before .before .if1 .left), ← c .before .on-grid2 .ensures, not-true (c .before .on-grid2 .result) (c .if2 .taken))
+
+returns-3 : tie.Need-returns-3
+unfolding corners cornersOn ordered pick
+returns-3 c = rw (← c .before .before .before .before .before .on-grid .ensures, not-false (c .before .before .before .before .before .on-grid .result) (c .before .before .before .before .if1 .left), ← c .before .before .before .on-grid2 .ensures, not-false (c .before .before .before .on-grid2 .result) (c .before .before .if2 .left), lt-leb _ _ (c .if3 .taken))
+
+returns-4 : tie.Need-returns-4
+unfolding corners cornersOn ordered pick
+returns-4 c = rw (← c .before .before .before .before .before .before .before .on-grid .ensures, not-false (c .before .before .before .before .before .before .before .on-grid .result) (c .before .before .before .before .before .before .if1 .left), ← c .before .before .before .before .before .on-grid2 .ensures, not-false (c .before .before .before .before .before .on-grid2 .result) (c .before .before .before .before .if2 .left), le-leb _ _ (c .before .before .if3 .left), lt-leb _ _ (c .if4 .taken))
+
+returns-5 : tie.Need-returns-5
+unfolding corners cornersOn ordered pick
+returns-5 c = rw (← c .before .before .before .before .before .before .before .on-grid .ensures, not-false (c .before .before .before .before .before .before .before .on-grid .result) (c .before .before .before .before .before .before .if1 .left), ← c .before .before .before .before .before .on-grid2 .ensures, not-false (c .before .before .before .before .before .on-grid2 .result) (c .before .before .before .before .if2 .left), le-leb _ _ (c .before .before .if3 .left), le-leb _ _ (c .if4 .left))
+
+pub check-corners-spec : {M : Type 1} → statement M
+check-corners-spec =
+    tie.close
+    (tie.spec on-grid-requires returns on-grid-requires-2 returns-2 returns-3 returns-4 returns-5)
