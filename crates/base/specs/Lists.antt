@@ -1,16 +1,19 @@
 -- Lists of numbers: what stands in one, lists without repetition, consecutive numbers.
-use mathlib.Core.Path.{_≡_, refl, ap, subst, _∙_}
+use mathlib.Core.Path.{_≡_, refl, sym, ap, subst, _∙_}
 use mathlib.Core.Logic.{_⊎_, inl, inr, ⊎-elim}
-use mathlib.Core.List.{List, [], _∷_, _++_}
+use mathlib.Core.List.{List, [], _∷_, _++_, List·Memᴰ, List·Memᴰ·head, List·Memᴰ·tail, Memᴰ·cast}
+pub use mathlib.Core.List.{List·Memᴰ·tail as there, List·Memᴰ·not-nil as in-none, List·Memᴰ·cases-cons as in-or, Memᴰ·append-left as in-left, Memᴰ·append-right as in-right, List·Memᴰ·append-cases as in-append, List·Memᴰ·eq-of-singleton as in-one}
 use Prim.Native.Nat.{ℕ, zero, suc, _+_, _<_, _≤_}
 use lib.ListN.{length}
 use native.Mathlib.Omega.{arith}
 use Rattle.base.specs.Table.{at-or, clash}
 
--- b stands in the list
-pub data In (b : ℕ) : List ℕ → Type 0 where
-  here : {l : List ℕ} → In b (b ∷ l)
-  there : {x : ℕ} {l : List ℕ} → In b l → In b (x ∷ l)
+-- b stands in the list: the library's membership, under short names
+abbrev pub In : ℕ → List ℕ → Type 0
+In b l = List·Memᴰ b l
+
+abbrev pub here : {b : ℕ} {l : List ℕ} → In b (b ∷ l)
+here = List·Memᴰ·head refl
 
 -- no number stands in the list twice
 pub data Once : List ℕ → Type 0 where
@@ -21,34 +24,6 @@ pub data Once : List ℕ → Type 0 where
 unfoldable pub numbersFrom : ℕ → ℕ → List ℕ
 numbersFrom c zero = []
 numbersFrom c (suc n) = c ∷ numbersFrom (suc c) n
-
-pub in-none : {j : ℕ} → In j [] → ⊥
-in-none {j} i = none j [] i refl
-  where
-    none : (j : ℕ) (l : List ℕ) → In j l → l ≡ [] → ⊥
-    none j _ here e = clash (cc)
-    none j _ (there i) e = clash (cc)
-
-pub in-or : {j b : ℕ} {l : List ℕ} → In j (b ∷ l) → (j ≡ b) ⊎ In j l
-in-or here = inl refl
-in-or (there i) = inr i
-
-pub in-left : {j : ℕ} {l : List ℕ} (m : List ℕ) → In j l → In j (l ++ m)
-in-left m here = here
-in-left m (there i) = there (in-left m i)
-
-pub in-right : {j : ℕ} (l : List ℕ) {m : List ℕ} → In j m → In j (l ++ m)
-in-right [] i = i
-in-right (x ∷ l) i = there (in-right l i)
-
--- a number of l ++ m stands in l or in m
-pub in-append : {j : ℕ} (l : List ℕ) {m : List ℕ} → In j (l ++ m) → In j l ⊎ In j m
-in-append [] i = inr i
-in-append {j} (x ∷ l) {m} i =
-    ⊎-elim (λ (e : j ≡ x). inl (rw e here)) (λ (r : In j (l ++ m)). ⊎-elim (λ (p : In j l). inl (there p)) (λ (p : In j m). inr p) (in-append l r)) (in-or i)
-
-pub in-one : {j b : ℕ} → In j (b ∷ []) → j ≡ b
-in-one {j} {b} i = ⊎-elim (λ (e : j ≡ b). e) (λ (n : In j []). absurd (in-none n)) (in-or i)
 
 -- one number more at the end
 pub once-last : (l : List ℕ) {b : ℕ} → Once l → (In b l → ⊥) → Once (l ++ b ∷ [])
@@ -72,25 +47,25 @@ in-dec b (x ∷ l) =
 
 -- the list without the b that was found
 remove : {b : ℕ} {l : List ℕ} → In b l → List ℕ
-remove (here {l = l}) = l
-remove (there {x = x} i) = x ∷ remove i
+remove (List·Memᴰ·head {xs = l} e) = l
+remove (List·Memᴰ·tail {x = x} i) = x ∷ remove i
 
 remove-length : {b : ℕ} {l : List ℕ} (i : In b l) → length l ≡ suc (length (remove i))
 unfolding remove
-remove-length here = refl
-remove-length (there i) = ap suc (remove-length i)
+remove-length (List·Memᴰ·head e) = refl
+remove-length (List·Memᴰ·tail i) = ap suc (remove-length i)
 
 remove-in : {j b : ℕ} {l : List ℕ} (i : In b l) → In j (remove i) → In j l
 unfolding remove
-remove-in here p = there p
-remove-in {j} (there {x = x} i) p = ⊎-elim (λ (e : j ≡ x). rw e here) (λ (q : In j (remove i)). there (remove-in i q)) (in-or p)
+remove-in (List·Memᴰ·head e) p = there p
+remove-in {j} (List·Memᴰ·tail {x = x} i) p = ⊎-elim (λ (e : j ≡ x). List·Memᴰ·head e) (λ (q : In j (remove i)). there (remove-in i q)) (in-or p)
 
 remove-once : {b : ℕ} {l : List ℕ} (i : In b l) → Once l → Once (remove i) × (In b (remove i) → ⊥)
 unfolding remove
-remove-once here (more n o) = (o, n)
-remove-once {b} (there {x = x} i) (more n o) =
+remove-once {b} (List·Memᴰ·head {xs = l} e) (more n o) = (o, λ (p : In b l). n (Memᴰ·cast (sym e) p))
+remove-once {b} (List·Memᴰ·tail {x = x} i) (more n o) =
     let r = remove-once i o in
-    (more (λ p. n (remove-in i p)) (r .0), λ p. ⊎-elim (λ (e : b ≡ x). n (rw (← e) i)) (λ (q : In b (remove i)). r .1 q) (in-or p))
+    (more (λ p. n (remove-in i p)) (r .0), λ p. ⊎-elim (λ (e : b ≡ x). n (Memᴰ·cast (sym e) i)) (λ (q : In b (remove i)). r .1 q) (in-or p))
 
 -- numbers below n, none twice, are at most n
 pub once-few : (n : ℕ) (l : List ℕ) → Once l → ((j : ℕ) → In j l → j < n) → length l ≤ n

@@ -1,6 +1,4 @@
-mod Leaving
 mod Pick
-mod Signs
 pub mod Chains
 pub mod Counts
 pub mod Empty

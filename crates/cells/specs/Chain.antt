@@ -10,14 +10,14 @@ use Rattle.base.specs.Table.{at}
 use Rattle.layout.specs.Place.{placeList}
 use Rattle.layout.specs.declared.place.Place.{Place}
 use Rattle.pool.specs.Pool.{Took, take, give}
-use Rattle.cells.specs.Tuple.{Tuples, slotAt, overwrite}
-use Rattle.cells.specs.declared.chain.Last.{Last}
-use Rattle.cells.specs.declared.chain.LastTuple.{LastTuple}
-use Rattle.cells.specs.declared.chain.LastTuple.the-variants.{Corrupt as LastCorrupt, At as LastAt}
-use Rattle.cells.specs.declared.chain.Lowered.{Lowered}
-use Rattle.cells.specs.declared.chain.Lowered.the-variants.{Corrupt as LoweredCorrupt, Kept, Unlinked}
-use Rattle.cells.specs.declared.chain.Written.{Written}
-use Rattle.cells.specs.declared.chain.Written.the-variants.{Corrupt as WrittenCorrupt, At as WrittenAt}
+use Rattle.slots.specs.Tuple.{Tuples, slotAt, overwrite}
+use Rattle.cells.specs.declared.Last.{Last}
+use Rattle.cells.specs.declared.LastTuple.{LastTuple}
+use Rattle.cells.specs.declared.LastTuple.the-variants.{Corrupt as LastCorrupt, At as LastAt}
+use Rattle.cells.specs.declared.Lowered.{Lowered}
+use Rattle.cells.specs.declared.Lowered.the-variants.{Corrupt as LoweredCorrupt, Kept, Unlinked}
+use Rattle.cells.specs.declared.Written.{Written}
+use Rattle.cells.specs.declared.Written.the-variants.{Corrupt as WrittenCorrupt, At as WrittenAt}
 
 -- no bucket
 abbrev pub noBucket : ℕ
@@ -36,8 +36,8 @@ needSome n k = need (not (eqb n 0)) (need (leb n 4) k)
 unfoldable pub last : List ℕ → List ℕ → List ℕ → ℕ → Outcome Last
 last first count oids c =
     andThen (firstBucket first c) (λ b.
-      needSome (at count b)
-        (done (record { bucket = b; slot = at count b - 1; oid = at oids (slotAt b (at count b - 1)) })))
+    needSome (at count b)
+    (done (record { bucket = b; slot = at count b - 1; oid = at oids (slotAt b (at count b - 1)) })))
 
 abbrev pub lastValues : Last → List ℕ
 lastValues l = l .bucket ∷ l .slot ∷ l .oid ∷ []
@@ -58,11 +58,11 @@ pub record Lowering : Type 0 where
 unfoldable pub lower : List ℕ → List ℕ → List ℕ → ℕ → Outcome Lowering
 lower first count next c =
     andThen (firstBucket first c) (λ b.
-      needSome (at count b)
-        (pick (eqb (at count b) 1)
-          (need (leb (at next b) 512)
-            (done (record { unlinked = some b; first = set first c (at next b); count = set count b 0 })))
-          (done (record { unlinked = none; first = first; count = set count b (at count b - 1) }))))
+    needSome (at count b)
+    (pick (eqb (at count b) 1)
+    (need (leb (at next b) 512)
+    (done (record { unlinked = some b; first = set first c (at next b); count = set count b 0 })))
+    (done (record { unlinked = none; first = first; count = set count b (at count b - 1) }))))
 
 abbrev pub unlinkedValues : Option ℕ → List ℕ
 unlinkedValues none = []
@@ -95,18 +95,18 @@ chainsOf f c n p = record { first = f; count = c; next = n; pool = p }
 unfoldable pub push : Chains → ℕ → Outcome Chains
 push d c =
     need (ltb c 256)
-      (andThen (take (d .pool)) (λ t.
-        done (chainsOf (set (d .first) c (t .bucket)) (set (d .count) (t .bucket) 0) (set (d .next) (t .bucket) (at (d .first) c)) (t .pool))))
+    (andThen (take (d .pool)) (λ t.
+    done (chainsOf (set (d .first) c (t .bucket)) (set (d .count) (t .bucket) 0) (set (d .next) (t .bucket) (at (d .first) c)) (t .pool))))
 
 -- Push one if the cell has no bucket or its first is full.
 unfoldable pub makeRoom : Chains → ℕ → Outcome Chains
 makeRoom d c =
     need (ltb c 256)
-      (need (leb (at (d .first) c) 512)
-        (pick (eqb (at (d .first) c) 512)
-          (push d c)
-          (need (leb (at (d .count) (at (d .first) c)) 4)
-            (pick (eqb (at (d .count) (at (d .first) c)) 4) (push d c) (done d)))))
+    (need (leb (at (d .first) c) 512)
+    (pick (eqb (at (d .first) c) 512)
+    (push d c)
+    (need (leb (at (d .count) (at (d .first) c)) 4)
+    (pick (eqb (at (d .count) (at (d .first) c)) 4) (push d c) (done d)))))
 
 -- ---- a tuple is written at the slot numbered by the count, and the count raised
 
@@ -117,9 +117,9 @@ pub record Writing : Type 0 where
 unfoldable pub write : List ℕ → List ℕ → Tuples → ℕ → ℕ → ℕ → ℕ → ℕ → Outcome Writing
 write first count d c k x y t =
     andThen (firstBucket first c) (λ b.
-      need (ltb (at count b) 4)
-        (andThen (overwrite d b (at count b) k x y t) (λ d′.
-          done (record { place = record { cell = c; bucket = b; slot = at count b }; tuples = d′ }))))
+    need (ltb (at count b) 4)
+    (andThen (overwrite d b (at count b) k x y t) (λ d′.
+    done (record { place = record { cell = c; bucket = b; slot = at count b }; tuples = d′ }))))
 
 -- broken tables: 12; else 0 and the place's cell, bucket and slot
 abbrev pub writtenSays : Written → Told

@@ -3,13 +3,14 @@
 use mathlib.Core.Path.{_≡_, refl, sym, ap, _∙_}
 use mathlib.Core.Logic.{_≢_, _⊎_, inl, inr, ⊎-elim}
 use mathlib.Core.Option.{Option, none, some}
-use mathlib.Core.List.{List, [], _∷_, _++_, List·Memᴰ, List·Memᴰ·head, List·Memᴰ·tail, List·Memᴰ·cases-cons, List·Memᴰ·not-nil}
+use mathlib.Core.List.{List, [], _∷_, _++_, List·Memᴰ·head}
 use Prim.Native.Nat.{ℕ, zero, suc, _+_, _≤_, _<_}
 use native.Mathlib.Omega.{arith}
 use lib.ListN.{length, take, drop, set, replicate, take-append-drop}
 use lib.Seq.{drop-cons, take-take, getD-take, length-take-le, set-split}
 use borrow.Author.Tests.{eq-eqb, ne-eqb}
-use Rattle.base.specs.Outcome.{Outcome, corrupt, blocked, done, andThen, pick}
+use Rattle.base.specs.Lists.{In, there, in-none, in-or}
+use Rattle.base.specs.Outcome.{Outcome, corrupt, done, andThen, then-done, pick}
 use Rattle.base.specs.Table.{at, at-or, clash}
 use Rattle.index.specs.Search.{search, known}
 use Rattle.index.specs.Index.{Index, Entry, newEntry, lookup, putEntry, insert, empty}
@@ -173,13 +174,6 @@ unfoldable pub enterAll : Index → List ℕ → Outcome Index
 enterAll d [] = done d
 enterAll d (k ∷ ks) = andThen (insert d k) (λ d′. enterAll d′ ks)
 
--- what is done after a step is done after the step was
-then-done : {A B : Type 0} (o : Outcome A) (f : A → Outcome B) {b : B} → andThen o f ≡ done b → (a : A) × (o ≡ done a) × (f a ≡ done b)
-unfolding andThen
-then-done corrupt f h = clash (cc)
-then-done blocked f h = clash (cc)
-then-done (done a) f h = (a, refl, h)
-
 -- the first is entered, and then the others
 first-entered : {d′ : Index} (d : Index) (k : ℕ) (ks : List ℕ) → enterAll d (k ∷ ks) ≡ done d′ → (d₁ : Index) × (insert d k ≡ done d₁) × (enterAll d₁ ks ≡ done d′)
 unfolding enterAll
@@ -215,18 +209,18 @@ step-found {d} k S m h = by-lookup (lookup d k)
     (λ g. (newEntry, lookup-insert-same k S m g h))
 
 -- each of the objects that are entered is known in the end, from any sound index on
-all-found : {d d′ : Index} (ks : List ℕ) (k : ℕ) → Sound d → enterAll d ks ≡ done d′ → List·Memᴰ k ks → k ≢ 0 → (e : Entry) × (lookup d′ k ≡ some e)
-all-found [] k S h w m = absurd (List·Memᴰ·not-nil w)
+all-found : {d d′ : Index} (ks : List ℕ) (k : ℕ) → Sound d → enterAll d ks ≡ done d′ → In k ks → k ≢ 0 → (e : Entry) × (lookup d′ k ≡ some e)
+all-found [] k S h w m = absurd (in-none w)
 all-found {d} (j ∷ ks) k S h w m =
     let t = first-entered d j ks h in
     let S₁ = sound-insert j S (t .1) in
     ⊎-elim
     (λ p. let g = step-found k S m (rw p (t .1)) in (g .0, all-kept ks k S₁ (t .2) (g .1)))
     (λ v. all-found ks k S₁ (t .2) v m)
-    (List·Memᴰ·cases-cons w)
+    (in-or w)
 
 -- what is known in the end was known at the start or is one of them
-all-only : {d d′ : Index} (ks : List ℕ) (k : ℕ) {e : Entry} → Sound d → enterAll d ks ≡ done d′ → lookup d′ k ≡ some e → (lookup d k ≡ some e) ⊎ List·Memᴰ k ks
+all-only : {d d′ : Index} (ks : List ℕ) (k : ℕ) {e : Entry} → Sound d → enterAll d ks ≡ done d′ → lookup d′ k ≡ some e → (lookup d k ≡ some e) ⊎ In k ks
 all-only [] k S h g = inl (rw (none-entered h) g)
 all-only {d} (j ∷ ks) k {e} S h g =
     let t = first-entered d j ks h in
@@ -234,15 +228,15 @@ all-only {d} (j ∷ ks) k {e} S h g =
     (λ (p : lookup (t .0) k ≡ some e). at-or k j
     (λ q. inr (List·Memᴰ·head q))
     (λ n. inl (sym (lookup-insert-other j k S (t .1) n) ∙ p)))
-    (λ v. inr (List·Memᴰ·tail v))
+    (λ v. inr (there v))
     (all-only ks k (sound-insert j S (t .1)) (t .2) g)
 
 -- Every object that was entered is found, whatever was entered in whatever order.
-pub entered-found : {d : Index} (ks : List ℕ) (k : ℕ) → enterAll empty ks ≡ done d → List·Memᴰ k ks → k ≢ 0 → (e : Entry) × (lookup d k ≡ some e)
+pub entered-found : {d : Index} (ks : List ℕ) (k : ℕ) → enterAll empty ks ≡ done d → In k ks → k ≢ 0 → (e : Entry) × (lookup d k ≡ some e)
 entered-found ks k h w m = all-found ks k sound-empty h w m
 
 -- Nothing else is found: the empty index knows no object.
-pub entered-only : {d : Index} (ks : List ℕ) (k : ℕ) {e : Entry} → enterAll empty ks ≡ done d → lookup d k ≡ some e → List·Memᴰ k ks
+pub entered-only : {d : Index} (ks : List ℕ) (k : ℕ) {e : Entry} → enterAll empty ks ≡ done d → lookup d k ≡ some e → In k ks
 entered-only ks k h g = ⊎-elim
     (λ p. let z = lookup-empty k in clash (cc))
     (λ v. v)

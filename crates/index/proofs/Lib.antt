@@ -1,4 +1,3 @@
-pub mod Answers
 pub mod Known
 pub mod Map
 pub mod Probe

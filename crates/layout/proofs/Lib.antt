@@ -1,3 +1,4 @@
+pub mod Answers
 pub mod Bools
 pub mod Corners
 pub mod Covers

@@ -5,6 +5,7 @@ use mathlib.Core.Option.{Option, none, some}
 use mathlib.Core.List.{List, [], _∷_, _++_}
 use Prim.Native.Nat.{ℕ, zero, suc, _+_, _-_, _*_, _/_, _%_}
 use lib.Dec.{eqb, ltb, leb}
+use Rattle.base.specs.Lists.{numbersFrom}
 use Rattle.base.specs.Outcome.{Told, says, Outcome, done, need, pick, one}
 use Rattle.layout.specs.Place.{onGrid, cellOf}
 use Rattle.layout.specs.declared.question.Question.{Question}
@@ -37,15 +38,10 @@ inside q x y = leb (q .x0) x && leb x (q .x1) && leb (q .y0) y && leb y (q .y1)
 
 -- ---- the cells that the rectangle touches
 
--- the cells from c on, n of them
-unfoldable pub cellsFrom : ℕ → ℕ → List ℕ
-cellsFrom c zero = []
-cellsFrom c (suc n) = c ∷ cellsFrom (suc c) n
-
 -- m rows of n cells each, the first at c
 unfoldable pub rowsFrom : ℕ → ℕ → ℕ → List ℕ
 rowsFrom c n zero = []
-rowsFrom c n (suc m) = cellsFrom c n ++ rowsFrom (c + 16) n m
+rowsFrom c n (suc m) = numbersFrom c n ++ rowsFrom (c + 16) n m
 
 unfoldable pub columns : Question → ℕ
 columns q = q .x1 / 1024 - q .x0 / 1024 + 1

@@ -1,0 +1,81 @@
+-- last_tuple answers what `last` says: one case for each return, by the tests that led there.
+use borrow.Author.Tests.{eq-eqb, le-leb, le-ltb, lt-leb, lt-ltb, ne-eqb}
+use Rattle.base.specs.Outcome.{need, andThen, tells}
+use Rattle.cells.specs.Chain.{last, firstBucket, needSome}
+use borrow.Author.Needs.{needs}
+use Rattle.cells.proofs.last_tuple.Statement.{statement}
+use Rattle.cells.proofs.last_tuple.Tie as tie
+
+returns : tie.Need-returns
+unfolding last firstBucket needSome need andThen tells
+returns c = rw (le-ltb _ _ (c .if1 .taken))
+
+mul-bucket : tie.Need-mul-bucket
+mul-bucket c = search needs
+
+shared-slice-read-bucket : tie.Need-shared-slice-read-bucket
+shared-slice-read-bucket c = search needs
+
+returns-2 : tie.Need-returns-2
+unfolding last firstBucket needSome need andThen tells
+returns-2 c = rw (lt-ltb _ _ (c .before .before .if1 .left), le-ltb _ _ (c .if2 .taken))
+
+cast-n : tie.Need-cast-n
+cast-n c = search needs
+
+mul-n : tie.Need-mul-n
+mul-n c = search needs
+
+shared-slice-read-n : tie.Need-shared-slice-read-n
+shared-slice-read-n c = search needs
+
+returns-3 : tie.Need-returns-3
+unfolding last firstBucket needSome need andThen tells
+returns-3 c = rw (lt-ltb _ _ (c .before .before .before .before .if1 .left), lt-ltb _ _ (c .before .before .if2 .left), eq-eqb _ _ (c .if3 .taken))
+
+returns-4 : tie.Need-returns-4
+unfolding last firstBucket needSome need andThen tells
+returns-4 c = rw (lt-ltb _ _ (c .before .before .before .before .before .if1 .left), lt-ltb _ _ (c .before .before .before .if2 .left), ne-eqb _ _ (c .before .if3 .left), lt-leb _ _ (c .if4 .taken))
+
+sub-slot : tie.Need-sub-slot
+sub-slot c = search needs
+
+mul-oid : tie.Need-mul-oid
+mul-oid c = search needs
+
+add-oid : tie.Need-add-oid
+add-oid c = search needs
+
+cast-oid : tie.Need-cast-oid
+cast-oid c = search needs
+
+mul-oid-2 : tie.Need-mul-oid-2
+mul-oid-2 c = search needs
+
+shared-slice-read-oid : tie.Need-shared-slice-read-oid
+shared-slice-read-oid c = search needs
+
+returns-5 : tie.Need-returns-5
+unfolding last firstBucket needSome need andThen tells
+returns-5 c = rw (lt-ltb _ _ (c .before .before .before .before .before .before .if1 .left), lt-ltb _ _ (c .before .before .before .before .if2 .left), ne-eqb _ _ (c .before .before .if3 .left), le-leb _ _ (c .before .if4 .left))
+
+pub last-tuple-spec : {M : Type 1} → statement M
+last-tuple-spec =
+    tie.close
+    (tie.spec
+    returns
+    mul-bucket
+    shared-slice-read-bucket
+    returns-2
+    cast-n
+    mul-n
+    shared-slice-read-n
+    returns-3
+    returns-4
+    sub-slot
+    mul-oid
+    add-oid
+    cast-oid
+    mul-oid-2
+    shared-slice-read-oid
+    returns-5)

@@ -1,0 +1,81 @@
+-- Tuples: four tables, slot s of bucket b at 4b + s. A tuple is read, copied and written whole.
+use mathlib.Core.Bool.{Bool, true, false, not, _||_}
+use mathlib.Core.List.{List, [], _∷_}
+use Prim.Native.Nat.{ℕ, _+_, _*_}
+use lib.Dec.{ltb}
+use lib.IntN.{ℤ, pos}
+use lib.ListN.{getD, set}
+use Rattle.base.specs.Outcome.{Told, says, Outcome, corrupt, done, need}
+use Rattle.base.specs.Table.{at}
+use Rattle.slots.specs.Stamp.{stampOf, current, deleted, stampRange}
+use Rattle.slots.specs.declared.stamp.Stamp.{Stamp}
+use Rattle.slots.specs.declared.stamp.Stamp.the-variants.{Never, Current, Deleted}
+use Rattle.slots.specs.declared.tuple.Seen.{Seen}
+use Rattle.slots.specs.declared.tuple.TupleRead.{TupleRead}
+use Rattle.slots.specs.declared.tuple.TupleRead.the-variants.{Corrupt, At}
+
+pub record Tuples : Type 0 where
+  pub oid : List ℕ
+  pub x : List ℕ
+  pub y : List ℕ
+  pub time : List ℤ
+
+abbrev pub tuplesOf : List ℕ → List ℕ → List ℕ → List ℤ → Tuples
+tuplesOf o x y t = record { oid = o; x = x; y = y; time = t }
+
+pub record Tuple : Type 0 where
+  pub oid : ℕ
+  pub x : ℕ
+  pub y : ℕ
+  pub time : ℤ
+
+abbrev pub slotAt : ℕ → ℕ → ℕ
+slotAt b s = 4 * b + s
+
+abbrev pub tupleAt : Tuples → ℕ → Tuple
+tupleAt d i = record { oid = at (d .oid) i; x = at (d .x) i; y = at (d .y) i; time = getD (d .time) i (pos 0) }
+
+abbrev pub putTuple : Tuples → ℕ → Tuple → Tuples
+putTuple d i t = tuplesOf (set (d .oid) i (t .oid)) (set (d .x) i (t .x)) (set (d .y) i (t .y)) (set (d .time) i (t .time))
+
+-- a bucket and a slot in range
+unfoldable pub needSlot : {A : Type 0} → ℕ → ℕ → Outcome A → Outcome A
+needSlot b s k = need (ltb b 512) (need (ltb s 4) k)
+
+-- Copy a tuple over another.
+unfoldable pub copy : Tuples → ℕ → ℕ → ℕ → ℕ → Outcome Tuples
+copy d b s b′ s′ = needSlot b s (needSlot b′ s′ (done (putTuple d (slotAt b′ s′) (tupleAt d (slotAt b s)))))
+
+-- Write a current tuple over the one at a slot.
+unfoldable pub overwrite : Tuples → ℕ → ℕ → ℕ → ℕ → ℕ → ℕ → Outcome Tuples
+overwrite d b s k x y t = needSlot b s (need (stampRange t) (done (putTuple d (slotAt b s) (record { oid = k; x = x; y = y; time = current t }))))
+
+-- Give a tuple the negative of a stamp.
+unfoldable pub delete : List ℤ → ℕ → ℕ → ℕ → Outcome (List ℤ)
+delete times b s t = needSlot b s (need (stampRange t) (done (set times (slotAt b s) (deleted t))))
+
+-- a tuple with its stamp read; corrupt where that is none
+unfoldable pub seen : Tuple → Stamp → Outcome Seen
+seen t Never = corrupt
+seen t (Current n) = done (record { oid = t .oid; x = t .x; y = t .y; deleted = false; time = n })
+seen t (Deleted n) = done (record { oid = t .oid; x = t .x; y = t .y; deleted = true; time = n })
+
+-- Read the tuple at a slot.
+unfoldable pub read : Tuples → ℕ → ℕ → Outcome Seen
+read d b s = needSlot b s (seen (tupleAt d (slotAt b s)) (stampOf (tupleAt d (slotAt b s) .time)))
+
+abbrev pub bit : Bool → ℕ
+bit true = 1
+bit false = 0
+
+abbrev pub seenValues : Seen → List ℕ
+seenValues t = t .oid ∷ t .x ∷ t .y ∷ bit (t .deleted) ∷ t .time ∷ []
+
+-- broken tables: 12; else 0 and object, x, y, 1 if deleted, the stamp's magnitude
+abbrev pub tupleReadSays : TupleRead → Told
+tupleReadSays Corrupt = says 12 []
+tupleReadSays (At t) = says 0 (seenValues t)
+
+-- What a query with stamp t may list: a tuple that is current, or was deleted with a stamp above t.
+unfoldable pub seenBy : ℕ → Seen → Bool
+seenBy t s = not (s .deleted) || ltb t (s .time)
