@@ -5,12 +5,14 @@ use Prim.Native.Nat.{ℕ, _+_, _*_}
 use lib.Dec.{ltb}
 use lib.IntN.{ℤ, pos}
 use lib.ListN.{getD, set}
-use Rattle.base.specs.Outcome.{Told, says, Outcome, corrupt, done, need}
+use Rattle.base.specs.Outcome.{Told, says, Outcome, corrupt, done, need, one}
 use Rattle.base.specs.Table.{at}
 use Rattle.slots.specs.Stamp.{stampOf, current, deleted, stampRange}
 use Rattle.slots.specs.declared.stamp.Stamp.{Stamp}
 use Rattle.slots.specs.declared.stamp.Stamp.the-variants.{Never, Current, Deleted}
 use Rattle.slots.specs.declared.tuple.Seen.{Seen}
+use Rattle.slots.specs.declared.tuple.Sign.{Sign}
+use Rattle.slots.specs.declared.tuple.Sign.the-variants.{Corrupt as SignCorrupt, Current as SignCurrent, Deleted as SignDeleted}
 use Rattle.slots.specs.declared.tuple.TupleRead.{TupleRead}
 use Rattle.slots.specs.declared.tuple.TupleRead.the-variants.{Corrupt, At}
 
@@ -79,3 +81,21 @@ tupleReadSays (At t) = says 0 (seenValues t)
 -- What a query with stamp t may list: a tuple that is current, or was deleted with a stamp above t.
 unfoldable pub seenBy : ℕ → Seen → Bool
 seenBy t s = not (s .deleted) || ltb t (s .time)
+
+-- Whether the tuple at a slot is deleted, by its stamp's sign; corrupt where that is none.
+unfoldable pub signOf : Stamp → Outcome Bool
+signOf Never = corrupt
+signOf (Current n) = done false
+signOf (Deleted n) = done true
+
+unfoldable pub sign : List ℤ → ℕ → ℕ → Outcome Bool
+sign times b s = needSlot b s (signOf (stampOf (getD times (slotAt b s) (pos 0))))
+
+abbrev pub signValues : Bool → List ℕ
+signValues d = one (bit d)
+
+-- broken tables: 12; else 0, and 1 if the tuple is deleted
+abbrev pub signSays : Sign → Told
+signSays SignCorrupt = says 12 []
+signSays SignCurrent = says 0 (one 0)
+signSays SignDeleted = says 0 (one 1)

@@ -4,7 +4,7 @@ ghost use Prim.Native.Nat.{_<_, _*_, _+_, _^_};
 ghost use lib.ListN.{length};
 ghost use Rattle.base.specs.Outcome.{tells, ended, nothing};
 ghost use Rattle.base.specs.Answer.{changeSays};
-ghost use Rattle.slots.specs.Tuple.{Tuples, tuplesOf, copy, overwrite, delete, read, seenValues, seenBy, tupleReadSays};
+ghost use Rattle.slots.specs.Tuple.{Tuples, tuplesOf, copy, overwrite, delete, read, seenValues, seenBy, tupleReadSays, sign, signValues, signSays};
 ghost use Rattle.slots.specs.Stamp.{stampRange};
 use crate::stamp::Stamp;
 use crate::stamp::current_stamp;
@@ -24,6 +24,13 @@ pub struct Seen {
 pub enum TupleRead {
     Corrupt,
     At(Seen),
+}
+
+// Whether a tuple is current or logically deleted.
+pub enum Sign {
+    Corrupt,
+    Current,
+    Deleted,
 }
 
 // Whether a stamp may have this magnitude.
@@ -178,4 +185,25 @@ pub fn is_seen(t: Seen, since: u32) -> bool
         return false;
     }
     true
+}
+
+// Whether the tuple at a slot is deleted, by its stamp's sign.
+pub fn read_sign(times: &[i32], bucket: u32, slot: u32) -> Sign
+    requires { ⌜ length (now times) ≡ 2048 ⌝ }
+    ensures { λ r. ⌜ tells signValues (sign (now (times .entry)) bucket slot) ≡ signSays r ⌝ }
+{
+    if bucket >= 512 {
+        return Sign::Corrupt;
+    }
+    if slot >= 4 {
+        return Sign::Corrupt;
+    }
+    let i = (4 * bucket + slot) as usize;
+    let s = times[i];
+    let stamp = read_stamp(s);
+    match stamp {
+        Stamp::Never => Sign::Corrupt,
+        Stamp::Current(_) => Sign::Current,
+        Stamp::Deleted(_) => Sign::Deleted,
+    }
 }
