@@ -1,13 +1,30 @@
 -- Document 01's starred trials (trials at the bench) as rows of one table, and one proof that covers the table.
 -- A row has what a definition gives and what document 01 says it gives.
 use mathlib.Core.Path.{_≡_, refl}
-use mathlib.Core.List.{List, [], _∷_}
-use Prim.Native.Nat.{ℕ}
-use Rattle.base.specs.Outcome.{pick, one}
-use Rattle.layout.specs.Place.{onGrid, cellOf}
+use mathlib.Core.List.{List, [], _∷_, _++_}
+use Prim.Native.Nat.{ℕ, zero, suc}
+use lib.ListN.{drop}
+use Rattle.base.specs.Lists.{numbersFrom}
+use Rattle.base.specs.Outcome.{pick, one, need, await, andThen}
+use Rattle.layout.specs.Place.{onGrid, cellOf, encode, decode}
 use Rattle.layout.specs.Question.{corners, cornersOn, ordered}
 use Rattle.layout.specs.declared.question.Question.{Question}
-use Rattle.index.specs.Search.{start}
+use Rattle.index.specs.Search.{start as hash, search, probe, after as after#, known}
+use Rattle.index.specs.Index.{insert, enterAt, empty}
+use Rattle.index.specs.Places.{readPlace, putPlace, erasePlace, shift}
+use Rattle.pool.specs.Pool.{height, withHeight, members, fresh, take as pool-take, give as pool-give}
+use Rattle.locks.specs.Lock.{look, take, release}
+use Rattle.slots.specs.Stamp.{stampOf, stampRange}
+use Rattle.slots.specs.Tuple.{needSlot, copy, overwrite, delete, sign, signOf}
+use Rattle.cells.specs.Chain.{firstBucket, needSome, last, lower, giveBack, push, makeRoom, write, raise}
+use Rattle.stage.specs.Turn.{atEntry, attempt, draw}
+use Rattle.acquire.specs.Acquire.{hold, stage1, stage2, stage3, goBack, stage14}
+use Rattle.erase.specs.Erase.{stage4, stage5, stage6, stage7, freeCell, correct, correctMoved}
+use Rattle.write.specs.Write.{rewrite, lockNew, choose, stage8, stage9, stage10}
+use Rattle.commit.specs.Commit.{stage11, stage12, stage13}
+use Rattle.tables.specs.Tables.{emptyTables, rightLengths, rightCells, rightTuples, rightIndex, rightHits}
+use Rattle.turns.specs.Stages.{stageOn, lift}
+use Rattle.grid.specs.Update.{After, Result, after, updateStart, updateStep, stepped, started, unless, isIdle, hasRoom, idleUpdaters}
 
 pub record Row : Type 0 where
   pub gives : List ℕ
@@ -20,12 +37,35 @@ row g s = record { gives = g; says = s }
 abbrev cornersNumber : ℕ → ℕ → ℕ → ℕ → ℕ
 cornersNumber x0 y0 x1 y1 = corners (record { x0 = x0; y0 = y0; x1 = x1; y1 = y1 }) .number
 
+-- ---- runs of updates from the empty grid
+
+data Call : Type 0 where
+  start : ℕ → ℕ → ℕ → ℕ → Call
+  step : ℕ → Call
+
+result : After → Call → Result
+result a (start l k x y) = updateStart (a .tables) (a .updaters) l k x y
+result a (step l) = updateStep (a .tables) (a .updaters) l
+
+-- the numbers that the calls give, one after the other
+numbers : After → List Call → List ℕ
+numbers a [] = []
+numbers a (k ∷ ks) = let b = after (a .tables) (a .updaters) (result a k) in b .number ∷ numbers b ks
+
+-- n steps of one lane
+steps : ℕ → ℕ → List Call
+steps l zero = []
+steps l (suc n) = step l ∷ steps l n
+
+fresh-grid : After
+fresh-grid = record { number = 0; tables = emptyTables; updaters = idleUpdaters }
+
 pub table : List Row
 table =
     -- where the search starts for carrier 1, 2 and 4,294,967,295
-    row (one (start 1)) (one 316)
-    ∷ row (one (start 2)) (one 120)
-    ∷ row (one (start 4294967295)) (one 195)
+    row (one (hash 1)) (one 316)
+    ∷ row (one (hash 2)) (one 120)
+    ∷ row (one (hash 4294967295)) (one 195)
     -- coordinate 16,383 is accepted, 16,384 gives 5, in x and in y
     ∷ row (one (cornersNumber 16383 16383 16383 16383)) (one 0)
     ∷ row (one (cornersNumber 0 0 16384 0)) (one 5)
@@ -35,6 +75,14 @@ table =
     -- a rectangle of one point is accepted; lower x one above upper gives 6
     ∷ row (one (cornersNumber 100 100 100 100)) (one 0)
     ∷ row (one (cornersNumber 101 100 100 100)) (one 6)
+    -- first report: 7 steps
+    ∷ row (numbers fresh-grid (start 0 7 100 100 ∷ steps 0 7)) (0 ∷ 0 ∷ 0 ∷ 0 ∷ 0 ∷ 0 ∷ 0 ∷ 22 ∷ [])
+    -- within the cell: 3
+    ∷ row (drop 8 (numbers fresh-grid ((start 0 7 100 100 ∷ steps 0 7) ++ start 0 7 200 200 ∷ steps 0 3))) (0 ∷ 0 ∷ 0 ∷ 22 ∷ [])
+    -- to another cell with no former place: 8
+    ∷ row (drop 8 (numbers fresh-grid ((start 0 7 100 100 ∷ steps 0 7) ++ start 0 7 2000 100 ∷ steps 0 8))) (0 ∷ 0 ∷ 0 ∷ 0 ∷ 0 ∷ 0 ∷ 0 ∷ 0 ∷ 22 ∷ [])
+    -- two lanes report one carrier: the second is held at stage 1
+    ∷ row (numbers fresh-grid (start 0 7 100 100 ∷ step 0 ∷ start 1 7 300 300 ∷ step 1 ∷ [])) (0 ∷ 0 ∷ 0 ∷ 20 ∷ [])
     ∷ []
 
 pub gives : List Row → List (List ℕ)
@@ -47,5 +95,5 @@ says (r ∷ t) = r .says ∷ says t
 
 -- THE PROOF: every row gives what document 01 says
 pub trials : gives table ≡ says table
-unfolding gives says table corners cornersOn ordered onGrid cellOf pick start
+unfolding gives says table corners cornersOn ordered onGrid cellOf pick hash numbers result steps fresh-grid emptyTables idleUpdaters after updateStart updateStep stepped started stageOn lift unless isIdle hasRoom rightLengths rightCells rightTuples rightIndex rightHits need await andThen atEntry attempt draw look take release search probe after# known insert enterAt empty members height withHeight pool-take pool-give fresh numbersFrom encode decode readPlace putPlace erasePlace shift stampOf needSlot stampRange copy overwrite delete sign signOf firstBucket needSome last lower giveBack push makeRoom write raise hold stage1 stage2 stage3 goBack stage14 stage4 stage5 stage6 stage7 freeCell correct correctMoved rewrite lockNew choose stage8 stage9 stage10 stage11 stage12 stage13
 trials = refl

@@ -1,6 +1,6 @@
 -- The bucket pool: a stack of bucket numbers in entries 0 to 511, its height in entry 512.
 -- Crates above use the laws of proofs/Laws.antt and do not unfold these definitions.
-use mathlib.Core.Bool.{not}
+use mathlib.Core.Bool.{Bool, not, _||_}
 use mathlib.Core.List.{List, [], _∷_}
 use Prim.Native.Nat.{ℕ, _+_, _-_}
 use lib.Dec.{eqb, ltb, leb}
@@ -56,6 +56,14 @@ give pool b =
     (need (ltb b 512)
     (need (ltb (height pool) 512)
     (done (withHeight (set pool (height pool) b) (height pool + 1)))))
+
+-- what document 01 calls a dry store, or a number out of range where a bucket is taken
+unfoldable pub takeRefused : List ℕ → Bool
+takeRefused pool = eqb (height pool) 0 || ltb 512 (height pool) || leb 512 (at pool (height pool - 1))
+
+-- a full pool, or a height out of range where a bucket is given back
+unfoldable pub giveRefused : List ℕ → Bool
+giveRefused pool = leb 512 (height pool)
 
 -- All 512 buckets: entry i has the number i, and so entry 512 the height 512.
 unfoldable pub fresh : List ℕ
