@@ -127,14 +127,14 @@ unfoldable pub stageCauses : Tables → Updater → Stage → List Cause
 stageCauses t u Idle = broken true ∷ []
 stageCauses t u TakeObject =
     broken (missing t (u .oid)) ∷ broken (badLock (lockOf t (u .oid))) ∷ held (taken (lockOf t (u .oid)))
-      ∷ broken (badPlace (at (t .index .previous) (entry t (u .oid)))) ∷ []
+    ∷ broken (badPlace (at (t .index .previous) (entry t (u .oid)))) ∷ []
 stageCauses t u (LockCell p) = broken (badCell (p .cell)) ∷ noLock t (p .cell)
 stageCauses t u (LookLast p) =
     let m = lastOf t (p .cell) in
     let other = not (eqb m (u .oid)) in
     noLast t (p .cell)
-      ++ broken (other && missing t m) ∷ broken (other && badLock (lockOf t m)) ∷ broken (other && taken (lockOf t m) && missing t (u .oid))
-      ∷ record { holds = other && taken (lockOf t m); number = 21 } ∷ []
+    ++ broken (other && missing t m) ∷ broken (other && badLock (lockOf t m)) ∷ broken (other && taken (lockOf t m) && missing t (u .oid))
+    ∷ record { holds = other && taken (lockOf t m); number = 21 } ∷ []
 stageCauses t u (CopyLast p m) = noLast t (p .cell) ++ noSlot p
 stageCauses t u (LowerCount p m) =
     noLast t (p .cell) ++ broken (eqb (countOf t (p .cell)) 1 && badLink (at (t .next) (firstOf t (p .cell)))) ∷ []
@@ -143,17 +143,17 @@ stageCauses t u (ReturnBucket p m b) =
 stageCauses t u (ErasePlace p m) =
     let other = not (eqb m (u .oid)) in
     broken (missing t (u .oid)) ∷ broken (other && missing t m) ∷ broken (other && badBucket (p .bucket)) ∷ broken (other && badSlot (p .slot))
-      ∷ broken (other && badStamp (getD (t .tuples .time) (4 * p .bucket + p .slot) (pos 0))) ∷ broken (badCell (p .cell)) ∷ []
+    ∷ broken (other && badStamp (getD (t .tuples .time) (4 * p .bucket + p .slot) (pos 0))) ∷ broken (badCell (p .cell)) ∷ []
 stageCauses t u ChooseCell =
     let n = at (t .index .current) (entry t (u .oid)) in
     let c = cellOf (u .x) (u .y) in
     broken (not (onGrid (u .x) (u .y))) ∷ broken (missing t (u .oid)) ∷ broken (badPlace n) ∷ broken (liesIn n c && spent (t .clock))
-      ∷ broken (not (liesIn n c) && badLock (at (t .cells) c)) ∷ held (not (liesIn n c) && taken (at (t .cells) c)) ∷ []
+    ∷ broken (not (liesIn n c) && badLock (at (t .cells) c)) ∷ held (not (liesIn n c) && taken (at (t .cells) c)) ∷ []
 stageCauses t u MakeRoom =
     let c = cellOf (u .x) (u .y) in
     let empty = eqb (firstOf t c) 512 in
     broken (not (onGrid (u .x) (u .y))) ∷ broken (badLink (firstOf t c)) ∷ broken (not empty && badCount (countOf t c))
-      ∷ broken ((empty || eqb (countOf t c) 4) && takeRefused (t .pool)) ∷ []
+    ∷ broken ((empty || eqb (countOf t c) 4) && takeRefused (t .pool)) ∷ []
 stageCauses t u WriteTuple =
     let c = cellOf (u .x) (u .y) in
     broken (not (onGrid (u .x) (u .y))) ∷ broken (spent (t .clock)) ∷ broken (badBucket (firstOf t c)) ∷ broken (leb 4 (countOf t c)) ∷ []
@@ -190,18 +190,18 @@ laneOf us l = getD us l idleUpdater
 unfoldable pub startCauses : Tables → List Updater → ℕ → ℕ → ℕ → ℕ → List Cause
 startCauses t us l k x y =
     broken (not (rightLengths t))
-      ∷ record { holds = leb 8 l; number = 1 }
-      ∷ record { holds = not (isIdle (laneOf us l .stage)); number = 2 }
-      ∷ record { holds = eqb k 0; number = 4 }
-      ∷ record { holds = not (onGrid x y); number = 5 }
-      ∷ record { holds = missing t k && leb 256 (known (t .index .oid)); number = 7 }
-      ∷ record { holds = leb 2147483600 (t .clock); number = 8 }
-      ∷ []
+    ∷ record { holds = leb 8 l; number = 1 }
+    ∷ record { holds = not (isIdle (laneOf us l .stage)); number = 2 }
+    ∷ record { holds = eqb k 0; number = 4 }
+    ∷ record { holds = not (onGrid x y); number = 5 }
+    ∷ record { holds = missing t k && leb 256 (known (t .index .oid)); number = 7 }
+    ∷ record { holds = leb 2147483600 (t .clock); number = 8 }
+    ∷ []
 
 -- A step: what its stage can meet comes last.
 unfoldable pub stepCauses : Tables → List Updater → ℕ → List Cause
 stepCauses t us l =
     broken (not (rightLengths t))
-      ∷ record { holds = leb 8 l; number = 1 }
-      ∷ record { holds = isIdle (laneOf us l .stage); number = 3 }
-      ∷ stageCauses t (laneOf us l) (laneOf us l .stage)
+    ∷ record { holds = leb 8 l; number = 1 }
+    ∷ record { holds = isIdle (laneOf us l .stage); number = 3 }
+    ∷ stageCauses t (laneOf us l) (laneOf us l .stage)

@@ -72,9 +72,9 @@ stepped t us l (done m) = answered (m .number) (m .tables) (set us l (withStage 
 unfoldable pub updateStep : Tables → List Updater → ℕ → Result
 updateStep t us l =
     unless (rightLengths t) 12
-      (unless (ltb l 8) 1
-        (unless (not (isIdle (getD us l idleUpdater .stage))) 3
-          (stepped t us l (stageOn t (suc l) (getD us l idleUpdater) (getD us l idleUpdater .stage)))))
+    (unless (ltb l 8) 1
+    (unless (not (isIdle (getD us l idleUpdater .stage))) 3
+    (stepped t us l (stageOn t (suc l) (getD us l idleUpdater) (getD us l idleUpdater .stage)))))
 
 -- a known object is let through; an unknown one only if fewer than 256 are known
 unfoldable pub hasRoom : Search → List ℕ → Bool
@@ -90,13 +90,13 @@ started t us l u (done d) = answered 0 (withIndex t d) (set us l u)
 unfoldable pub updateStart : Tables → List Updater → ℕ → ℕ → ℕ → ℕ → Result
 updateStart t us l k x y =
     unless (rightLengths t) 12
-      (unless (ltb l 8) 1
-        (unless (isIdle (getD us l idleUpdater .stage)) 2
-          (unless (not (eqb k 0)) 4
-            (unless (onGrid x y) 5
-              (unless (hasRoom (search (t .index .oid) k) (t .index .oid)) 7
-                (unless (ltb (t .clock) 2147483600) 8
-                  (started t us l (record { oid = k; x = x; y = y; stage = TakeObject }) (insert (t .index) k))))))))
+    (unless (ltb l 8) 1
+    (unless (isIdle (getD us l idleUpdater .stage)) 2
+    (unless (not (eqb k 0)) 4
+    (unless (onGrid x y) 5
+    (unless (hasRoom (search (t .index .oid) k) (t .index .oid)) 7
+    (unless (ltb (t .clock) 2147483600) 8
+    (started t us l (record { oid = k; x = x; y = y; stage = TakeObject }) (insert (t .index) k))))))))
 
 -- eight idle updaters
 unfoldable pub idleUpdaters : List Updater

@@ -5,8 +5,9 @@ ghost use mathlib.Core.Option.{some};
 ghost use Rattle.stage.specs.Turn.{turnSays};
 ghost use Rattle.grid.specs.Update.{isIdle};
 ghost use Rattle.grid.specs.Grid.{nextUpdaters};
-
-use stage::{Stage, Turn, Updater};
+use stage::Stage;
+use stage::Turn;
+use stage::Updater;
 
 // The number that a call gives (document 01), and the updaters afterwards.
 pub struct Stepped {
@@ -30,8 +31,16 @@ fn put_stage(updaters: [Updater; 8], at: usize, number: u32, s: Stage) -> Steppe
 {
     let u = updaters[at];
     let mut next = updaters;
-    next[at] = Updater { oid: u.oid, x: u.x, y: u.y, stage: s };
-    Stepped { number, updaters: next }
+    next[at] = Updater {
+        oid: u.oid,
+        x: u.x,
+        y: u.y,
+        stage: s,
+    };
+    Stepped {
+        number,
+        updaters: next,
+    }
 }
 
 // What a step gives, from how its stage ended.
@@ -40,8 +49,14 @@ pub fn end_step(updaters: [Updater; 8], at: usize, turn: Turn) -> Stepped
     ensures { λ r. ⌜ (r .number ≡ turnSays turn .number) × (r .updaters ≡ nextUpdaters updaters at (turnSays turn .next)) ⌝ }
 {
     match turn {
-        Turn::Corrupt => Stepped { number: 12, updaters },
-        Turn::Blocked => Stepped { number: 20, updaters },
+        Turn::Corrupt => Stepped {
+            number: 12,
+            updaters,
+        },
+        Turn::Blocked => Stepped {
+            number: 20,
+            updaters,
+        },
         Turn::Advanced(s) => put_stage(updaters, at, 0, s),
         Turn::Restarted => put_stage(updaters, at, 21, Stage::TakeObject),
         Turn::Finished => put_stage(updaters, at, 22, Stage::Idle),

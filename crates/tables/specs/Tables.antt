@@ -90,9 +90,9 @@ rightHits pool oid x y = eqb pool 513 && eqb oid 1024 && eqb x 1024 && eqb y 102
 unfoldable pub rightLengths : Tables → Bool
 rightLengths t =
     rightCells (length (t .first)) (length (t .cells)) (length (t .count)) (length (t .next)) (length (t .readers))
-      && rightTuples (length (t .tuples .oid)) (length (t .tuples .x)) (length (t .tuples .y)) (length (t .tuples .time))
-      && rightIndex (length (t .index .oid)) (length (t .index .lock)) (length (t .index .current)) (length (t .index .previous))
-      && rightHits (length (t .pool)) (length (t .hits .oid)) (length (t .hits .x)) (length (t .hits .y))
+    && rightTuples (length (t .tuples .oid)) (length (t .tuples .x)) (length (t .tuples .y)) (length (t .tuples .time))
+    && rightIndex (length (t .index .oid)) (length (t .index .lock)) (length (t .index .current)) (length (t .index .previous))
+    && rightHits (length (t .pool)) (length (t .hits .oid)) (length (t .hits .x)) (length (t .hits .y))
 
 -- what that says
 pub record Lengths (t : Tables) : Type 0 where

@@ -79,7 +79,25 @@ pub fn right_hits(pool: usize, oid: usize, x: usize, y: usize) -> bool
 }
 
 // All of them.
-pub fn right_all(first: usize, cells: usize, count: usize, next: usize, readers: usize, owners: usize, xs: usize, ys: usize, times: usize, oids: usize, locks: usize, current: usize, previous: usize, pool: usize, hits: usize, hitxs: usize, hitys: usize) -> bool
+pub fn right_all(
+    first: usize,
+    cells: usize,
+    count: usize,
+    next: usize,
+    readers: usize,
+    owners: usize,
+    xs: usize,
+    ys: usize,
+    times: usize,
+    oids: usize,
+    locks: usize,
+    current: usize,
+    previous: usize,
+    pool: usize,
+    hits: usize,
+    hitxs: usize,
+    hitys: usize,
+) -> bool
     ensures { λ r. ⌜ r ≡ (rightCells first cells count next readers && rightTuples owners xs ys times && rightIndex oids locks current previous && rightHits pool hits hitxs hitys) ⌝ }
 {
     if !right_cells(first, cells, count, next, readers) {

@@ -1,1 +1,2 @@
+mod Groups
 mod Lift
