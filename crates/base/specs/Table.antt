@@ -1,13 +1,13 @@
 -- Tables as lists of numbers: what stands at an index, what a store changes, and a table read as a function.
 use mathlib.Core.Path.{_≡_, refl, sym, _∙_, fun-ext}
 use mathlib.Core.Logic.{_≢_}
-use mathlib.Core.Bool.{Bool, true, false, cond}
+use mathlib.Core.Bool.{Bool, true, false, cond, not}
 use mathlib.Core.List.{List}
 use Prim.Native.Nat.{ℕ, _<_, _≤_}
-use lib.Dec.{eqb, ltb}
+use lib.Dec.{eqb, ltb, leb}
 use lib.ListN.{length, getD, set}
 use lib.Seq.{getD-set-same, getD-set-other}
-use borrow.Author.Tests.{eq-eqb, ne-eqb, lt-ltb}
+use borrow.Author.Tests.{eq-eqb, ne-eqb, lt-ltb, le-ltb, le-leb, lt-leb, ltb-true, ltb-false, leb-true, leb-false}
 use native.Mathlib.Decide.{ℕ-discrete}
 use native.Mathlib.Omega.{arith}
 
@@ -51,3 +51,18 @@ both a b = (a, b)
 -- at most n, and not n: the test that is left is `below`
 pub short-of : (b n : ℕ) → b ≤ n → b ≢ n → ltb b n ≡ true
 short-of b n h k = lt-ltb b n (omega arith)
+
+-- a test of order that fails is the test the other way round
+pub not-ltb : (a b : ℕ) → not (ltb a b) ≡ leb b a
+not-ltb a b = by (ltb a b) refl
+  where
+    by : (t : Bool) → ltb a b ≡ t → not t ≡ leb b a
+    by true e = sym (lt-leb b a (ltb-true a b e))
+    by false e = sym (le-leb b a (ltb-false a b e))
+
+pub not-leb : (a b : ℕ) → not (leb a b) ≡ ltb b a
+not-leb a b = by (leb a b) refl
+  where
+    by : (t : Bool) → leb a b ≡ t → not t ≡ ltb b a
+    by true e = sym (le-ltb b a (leb-true a b e))
+    by false e = sym (lt-ltb b a (leb-false a b e))

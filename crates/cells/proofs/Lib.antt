@@ -1,3 +1,4 @@
+pub mod Answers
 mod Pick
 pub mod Chains
 pub mod Counts

@@ -68,18 +68,18 @@ module _ (oids : List ℕ) (times : List ℤ) (e : Erasing) (p : Place) (m i : �
     refused h true = rw (length-set (e .previous) i nowhere, lt-ltb j (length (e .previous)) (omega (arith, S .previous)), h)
     refused h false = rw (lt-ltb j (length (e .current)) (omega (arith, S .current)), h)
 
-    -- it has one, but the place is out of range
+    -- its tuple has one, but the place is out of range
     pub moving-outside : (b : Bool) → sign times (p .bucket) (p .slot) ≡ done b → encode p ≡ corrupt → moving oids times e p m i ≡ corrupt
     unfolding correctMoved atEntry andThen
     moving-outside b t h = rw (erased, s, t, refused h b)
 
-    -- it is current
+    -- its tuple is current: the current place is corrected
     pub moving-current : (n : ℕ) → sign times (p .bucket) (p .slot) ≡ done false → encode p ≡ done n
         → moving oids times e p m i ≡ advance ChooseCell (erasingOf (set (e .locks) j 0) (set (e .current) j n) (set (e .previous) i nowhere) (set (e .cells) (p .cell) 0))
     unfolding correctMoved correct freeCell atEntry andThen
     moving-current n t h = rw (erased, s, t, put-current h, release-some (e .locks) j (omega (arith, S .locks)), release-some (e .cells) (p .cell) (omega (arith, S .cells, numbered-cell p n h)))
 
-    -- it is deleted
+    -- its tuple is deleted: the previous place is corrected
     pub moving-deleted : (n : ℕ) → sign times (p .bucket) (p .slot) ≡ done true → encode p ≡ done n
         → moving oids times e p m i ≡ advance ChooseCell (erasingOf (set (e .locks) j 0) (e .current) (set (set (e .previous) i nowhere) j n) (set (e .cells) (p .cell) 0))
     unfolding correctMoved correct freeCell atEntry andThen

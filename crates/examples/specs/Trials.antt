@@ -20,7 +20,8 @@ use Rattle.cells.specs.Chain.{firstBucket, needSome, last, lower, giveBack, pus
 use Rattle.stage.specs.Turn.{atEntry, attempt, draw}
 use Rattle.acquire.specs.Acquire.{hold, stage1, stage2, stage3, goBack, stage14}
 use Rattle.erase.specs.Erase.{stage4, stage5, stage6, stage7, freeCell, correct, correctMoved}
-use Rattle.write.specs.Write.{rewrite, lockNew, choose, stage8, stage9, stage10}
+use Rattle.choose.specs.Choose.{rewrite, lockNew, choose, stage8}
+use Rattle.write.specs.Write.{stage9, stage10}
 use Rattle.commit.specs.Commit.{stage11, stage12, stage13}
 use Rattle.tables.specs.Tables.{emptyTables, rightLengths, rightCells, rightTuples, rightIndex, rightHits}
 use Rattle.turns.specs.Stages.{stageOn, lift}

@@ -67,7 +67,7 @@ taken v = not (eqb v 0)
 abbrev badCount : ℕ → Bool
 badCount n = ltb 4 n
 
-abbrev badStamp : ℤ → Bool
+abbrev pub badStamp : ℤ → Bool
 badStamp (pos n) = eqb n 0
 badStamp (negsuc n) = eqb n 2147483647
 

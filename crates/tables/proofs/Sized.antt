@@ -23,6 +23,10 @@ index-said : (o l c p : ℕ) → rightIndex o l c p ≡ true → (o ≡ 512) × 
 unfolding rightIndex
 index-said o l c p e = let s = simp (and-eq-true-iff, eqb-iff) at e in (s .0 .0 .0, s .0 .0 .1, s .0 .1, s .1)
 
+hits-said : (p o x y : ℕ) → rightHits p o x y ≡ true → p ≡ 513
+unfolding rightHits
+hits-said p o x y e = let s = simp (and-eq-true-iff, eqb-iff) at e in s .0 .0 .0
+
 pub lengths : (t : Tables) → rightLengths t ≡ true → Lengths t
 unfolding rightLengths
 lengths t e =
@@ -44,4 +48,5 @@ lengths t e =
       locks = i .1;
       current = i .2;
       previous = i .3;
+      pool = hits-said _ _ _ _ (s .1);
     }

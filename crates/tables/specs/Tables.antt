@@ -109,6 +109,7 @@ pub record Lengths (t : Tables) : Type 0 where
   pub locks : length (t .index .lock) ≡ 512
   pub current : length (t .index .current) ≡ 512
   pub previous : length (t .index .previous) ≡ 512
+  pub pool : length (t .pool) ≡ 513
 
 -- THE EMPTY GRID (document 01: a fresh deck): no bucket in a cell, no lock, no object known, all buckets in the pool, the clock at 0
 unfoldable pub emptyTables : Tables

@@ -9,7 +9,8 @@ use Rattle.stage.specs.declared.Stage.the-variants.{Idle, TakeObject, LockCell,
 use Rattle.stage.specs.declared.Updater.{Updater}
 use Rattle.acquire.specs.Acquire.{stage1, stage2, stage3, stage14, Locks, locksOf}
 use Rattle.erase.specs.Erase.{stage4, stage5, stage6, stage7, Erasing, erasingOf}
-use Rattle.write.specs.Write.{stage8, stage9, stage10, Placing, placingOf, Drawn, drawnOf}
+use Rattle.choose.specs.Choose.{stage8, Placing, placingOf}
+use Rattle.write.specs.Write.{stage9, stage10, Drawn, drawnOf}
 use Rattle.commit.specs.Commit.{stage11, stage12, stage13, Switching, switchingOf, Deleting, deletingOf}
 use Rattle.tables.specs.Tables.{Tables, withCells, withCount, withFirst, withNext, withTuples, withTimes, withPool, withClock, withEntries, withLocks}
 

@@ -8,7 +8,7 @@ ghost use Rattle.turns.specs.Stages.{stageOn, groupOf};
 use stage::Stage;
 use stage::Turn;
 use stage::Updater;
-use write::choose_cell;
+use choose::choose_cell;
 use write::make_room_stage;
 use write::write_new;
 

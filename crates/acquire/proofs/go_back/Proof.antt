@@ -4,7 +4,7 @@ use Rattle.base.specs.Outcome.{need, andThen}
 use Rattle.locks.specs.Lock.{release}
 use Rattle.stage.specs.Turn.{turnTells, turnLeaves, atEntry}
 use Rattle.acquire.specs.Acquire.{goBack}
-use Rattle.acquire.proofs.Answers.{sought}
+use Rattle.index.proofs.Probe.{answered as sought}
 use borrow.Author.Needs.{needs}
 use Rattle.acquire.proofs.go_back.Statement.{statement}
 use Rattle.acquire.proofs.go_back.Tie as tie

@@ -11,7 +11,8 @@ use Rattle.index.specs.Search.{search as entryOf}
 use Rattle.index.specs.declared.search.Search.the-variants.{Found}
 use Rattle.stage.specs.Turn.{turnTells, turnLeaves, atEntry, attempt}
 use Rattle.acquire.specs.Acquire.{stage3}
-use Rattle.acquire.proofs.Answers.{sought, last-corrupt, last-at}
+use Rattle.cells.proofs.Answers.{last-corrupt, last-at}
+use Rattle.index.proofs.Probe.{answered as sought}
 use borrow.Author.Needs.{needs}
 use Rattle.acquire.proofs.look_last.Statement.{statement}
 use Rattle.acquire.proofs.look_last.Tie as tie

@@ -4,7 +4,7 @@ use Rattle.base.specs.Answer.{changed-corrupt, changed-done}
 use Rattle.locks.specs.Lock.{release}
 use Rattle.stage.specs.Turn.{turnTells, turnLeaves, atEntry}
 use Rattle.acquire.specs.Acquire.{stage14}
-use Rattle.acquire.proofs.Answers.{sought}
+use Rattle.index.proofs.Probe.{answered as sought}
 use borrow.Author.Needs.{needs}
 use Rattle.acquire.proofs.release_object.Statement.{statement}
 use Rattle.acquire.proofs.release_object.Tie as tie

@@ -10,7 +10,7 @@ use Rattle.index.specs.declared.search.Search.the-variants.{Found}
 use Rattle.index.specs.Places.{readPlace}
 use Rattle.stage.specs.Turn.{turnTells, turnLeaves, atEntry}
 use Rattle.acquire.specs.Acquire.{stage1}
-use Rattle.acquire.proofs.Answers.{sought}
+use Rattle.index.proofs.Probe.{answered as sought}
 use borrow.Author.Needs.{needs}
 use Rattle.acquire.proofs.take_object.Statement.{statement}
 use Rattle.acquire.proofs.take_object.Tie as tie

@@ -5,7 +5,7 @@ use Rattle.slots.specs.Tuple.{copy}
 use Rattle.cells.specs.Chain.{last}
 use Rattle.stage.specs.Turn.{turnTells, turnLeaves}
 use Rattle.erase.specs.Erase.{stage4}
-use Rattle.erase.proofs.Answers.{last-corrupt, last-at}
+use Rattle.cells.proofs.Answers.{last-corrupt, last-at}
 use borrow.Author.Needs.{needs}
 use Rattle.erase.proofs.copy_last.Statement.{statement}
 use Rattle.erase.proofs.copy_last.Tie as tie

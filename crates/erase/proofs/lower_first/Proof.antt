@@ -3,7 +3,7 @@ use Rattle.base.specs.Outcome.{andThen}
 use Rattle.cells.specs.Chain.{lower}
 use Rattle.stage.specs.Turn.{turnTells, turnLeaves}
 use Rattle.erase.specs.Erase.{stage5}
-use Rattle.erase.proofs.Answers.{lowered-corrupt, lowered-kept, lowered-unlinked}
+use Rattle.cells.proofs.Answers.{lowered-corrupt, lowered-kept, lowered-unlinked}
 use borrow.Author.Needs.{needs}
 use Rattle.erase.proofs.lower_first.Statement.{statement}
 use Rattle.erase.proofs.lower_first.Tie as tie

@@ -5,7 +5,7 @@ use Rattle.base.specs.Outcome.{need, andThen}
 use Rattle.cells.specs.Chain.{write}
 use Rattle.stage.specs.Turn.{draw, turnTells, turnLeaves}
 use Rattle.write.specs.Write.{stage10}
-use Rattle.write.proofs.Answers.{written-corrupt, written-at}
+use Rattle.cells.proofs.Answers.{written-corrupt, written-at}
 use borrow.Author.Needs.{needs}
 use Rattle.write.proofs.write_new.Statement.{statement}
 use Rattle.write.proofs.write_new.Tie as tie

@@ -15,7 +15,7 @@ use Rattle.index.specs.Places.{readPlace}
 use Rattle.index.specs.declared.search.Search.{Search}
 use Rattle.index.specs.declared.search.Search.the-variants.{Found, Empty}
 use Rattle.stage.specs.Turn.{atEntry}
-use Rattle.write.specs.Write.{Placing, rewrite, lockNew, choose, stage8}
+use Rattle.choose.specs.Choose.{Placing, rewrite, lockNew, choose, stage8}
 
 -- the current place of an object that is to stand at a point
 abbrev pub here : List ℕ → List ℕ → ℕ → ℕ → ℕ → Outcome (Option Place)

@@ -7,11 +7,11 @@ use Rattle.layout.specs.declared.place.Place.{Place}
 use Rattle.layout.proofs.Answers.{read-corrupt, read-nowhere, read-at}
 use Rattle.slots.specs.Tuple.{tuplesOf}
 use Rattle.stage.specs.Turn.{turnTells, turnLeaves}
-use Rattle.write.specs.Write.{Placing, placingOf}
-use Rattle.write.proofs.Choosing.{here, choose-corrupt, choose-nowhere, choose-other, choose-same}
+use Rattle.choose.specs.Choose.{Placing, placingOf}
+use Rattle.choose.proofs.Choosing.{here, choose-corrupt, choose-nowhere, choose-other, choose-same}
 use borrow.Author.Needs.{needs}
-use Rattle.write.proofs.choose_cell.Statement.{statement}
-use Rattle.write.proofs.choose_cell.Tie as tie
+use Rattle.choose.proofs.choose_cell.Statement.{statement}
+use Rattle.choose.proofs.choose_cell.Tie as tie
 
 -- the tables at the start
 abbrev tables : tie.After-current-place → Placing

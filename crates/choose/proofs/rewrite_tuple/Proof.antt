@@ -4,10 +4,10 @@ use Rattle.base.specs.Outcome.{need, andThen}
 use Rattle.base.specs.Answer.{changed-corrupt, changed-done}
 use Rattle.slots.specs.Tuple.{overwrite}
 use Rattle.stage.specs.Turn.{draw, turnTells, turnLeaves}
-use Rattle.write.specs.Write.{rewrite}
+use Rattle.choose.specs.Choose.{rewrite}
 use borrow.Author.Needs.{needs}
-use Rattle.write.proofs.rewrite_tuple.Statement.{statement}
-use Rattle.write.proofs.rewrite_tuple.Tie as tie
+use Rattle.choose.proofs.rewrite_tuple.Statement.{statement}
+use Rattle.choose.proofs.rewrite_tuple.Tie as tie
 
 returns : tie.Need-returns
 unfolding rewrite draw need turnTells turnLeaves

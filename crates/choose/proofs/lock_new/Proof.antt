@@ -3,10 +3,10 @@ use Rattle.base.specs.Outcome.{andThen}
 use Rattle.base.specs.Answer.{attempt-corrupt, attempt-blocked, attempt-done}
 use Rattle.locks.specs.Lock.{take}
 use Rattle.stage.specs.Turn.{turnTells, turnLeaves}
-use Rattle.write.specs.Write.{lockNew}
+use Rattle.choose.specs.Choose.{lockNew}
 use borrow.Author.Needs.{needs}
-use Rattle.write.proofs.lock_new.Statement.{statement}
-use Rattle.write.proofs.lock_new.Tie as tie
+use Rattle.choose.proofs.lock_new.Statement.{statement}
+use Rattle.choose.proofs.lock_new.Tie as tie
 
 take-lock-requires : tie.Need-take-lock-requires
 take-lock-requires c κs = search needs

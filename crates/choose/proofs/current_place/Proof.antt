@@ -5,8 +5,8 @@ use Rattle.base.specs.Outcome.{need, tells}
 use Rattle.index.proofs.Probe.{find-search}
 use Rattle.stage.specs.Turn.{atEntry}
 use borrow.Author.Needs.{needs}
-use Rattle.write.proofs.current_place.Statement.{statement}
-use Rattle.write.proofs.current_place.Tie as tie
+use Rattle.choose.proofs.current_place.Statement.{statement}
+use Rattle.choose.proofs.current_place.Tie as tie
 
 on-grid-requires : tie.Need-on-grid-requires
 on-grid-requires c κs = search needs

@@ -1,0 +1,7 @@
+pub mod CausesCommit
+pub mod CausesErase
+pub mod CausesLock
+pub mod CausesWrite
+pub mod Moves
+pub mod Numbers
+pub mod Refusals
