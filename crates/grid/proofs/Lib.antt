@@ -1,3 +1,5 @@
+mod Busy
+mod Steps
 pub mod CausesCommit
 pub mod CausesErase
 pub mod CausesLock

@@ -233,3 +233,7 @@ fresh-size = ap length fresh-members ∙ numbers-length 0 512
 pub refill-fresh : (pool p : List ℕ) → refill pool ≡ done p → p ≡ fresh
 unfolding refill
 refill-fresh pool p e = sym (done-one (need-done _ _ e .1))
+
+pub refill-some : (pool : List ℕ) → length pool ≡ 513 → refill pool ≡ done fresh
+unfolding refill
+refill-some pool e = need-true _ _ (eq-eqb _ _ e)

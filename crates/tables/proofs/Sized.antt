@@ -23,9 +23,9 @@ index-said : (o l c p : ℕ) → rightIndex o l c p ≡ true → (o ≡ 512) × 
 unfolding rightIndex
 index-said o l c p e = let s = simp (and-eq-true-iff, eqb-iff) at e in (s .0 .0 .0, s .0 .0 .1, s .0 .1, s .1)
 
-hits-said : (p o x y : ℕ) → rightHits p o x y ≡ true → p ≡ 513
+hits-said : (p o x y : ℕ) → rightHits p o x y ≡ true → (p ≡ 513) × (o ≡ 1024) × (x ≡ 1024) × (y ≡ 1024)
 unfolding rightHits
-hits-said p o x y e = let s = simp (and-eq-true-iff, eqb-iff) at e in s .0 .0 .0
+hits-said p o x y e = let s = simp (and-eq-true-iff, eqb-iff) at e in (s .0 .0 .0, s .0 .0 .1, s .0 .1, s .1)
 
 pub lengths : (t : Tables) → rightLengths t ≡ true → Lengths t
 unfolding rightLengths
@@ -34,6 +34,7 @@ lengths t e =
     let c = cells-said _ _ _ _ _ (s .0 .0 .0) in
     let d = tuples-said _ _ _ _ (s .0 .0 .1) in
     let i = index-said _ _ _ _ (s .0 .1) in
+    let h = hits-said _ _ _ _ (s .1) in
     record {
       first = c .0;
       cells = c .1;
@@ -48,5 +49,8 @@ lengths t e =
       locks = i .1;
       current = i .2;
       previous = i .3;
-      pool = hits-said _ _ _ _ (s .1);
+      pool = h .0;
+      hits = h .1;
+      hitxs = h .2;
+      hitys = h .3;
     }

@@ -110,6 +110,9 @@ pub record Lengths (t : Tables) : Type 0 where
   pub current : length (t .index .current) ≡ 512
   pub previous : length (t .index .previous) ≡ 512
   pub pool : length (t .pool) ≡ 513
+  pub hits : length (t .hits .oid) ≡ 1024
+  pub hitxs : length (t .hits .x) ≡ 1024
+  pub hitys : length (t .hits .y) ≡ 1024
 
 -- THE EMPTY GRID (document 01: a fresh deck): no bucket in a cell, no lock, no object known, all buckets in the pool, the clock at 0
 unfoldable pub emptyTables : Tables

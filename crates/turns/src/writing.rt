@@ -5,10 +5,10 @@ ghost use Rattle.stage.specs.Turn.{turned, turnSays};
 ghost use Rattle.tables.specs.Tables.{Tables};
 ghost use Rattle.turns.specs.Parts.{writeTables};
 ghost use Rattle.turns.specs.Stages.{stageOn, groupOf};
+use choose::choose_cell;
 use stage::Stage;
 use stage::Turn;
 use stage::Updater;
-use choose::choose_cell;
 use write::make_room_stage;
 use write::write_new;
 
