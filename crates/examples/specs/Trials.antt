@@ -3,7 +3,7 @@
 use mathlib.Core.Path.{_≡_, refl}
 use mathlib.Core.List.{List, [], _∷_, _++_}
 use Prim.Native.Nat.{ℕ, zero, suc}
-use lib.ListN.{drop}
+use lib.ListN.{drop, getD}
 use Rattle.base.specs.Lists.{numbersFrom}
 use Rattle.base.specs.Outcome.{pick, one, need, await, andThen}
 use Rattle.layout.specs.Place.{onGrid, cellOf, encode, decode}
@@ -17,6 +17,8 @@ use Rattle.locks.specs.Lock.{look, take, release}
 use Rattle.slots.specs.Stamp.{stampOf, stampRange}
 use Rattle.slots.specs.Tuple.{needSlot, copy, overwrite, delete, sign, signOf}
 use Rattle.cells.specs.Chain.{firstBucket, needSome, last, lower, giveBack, push, makeRoom, write, raise}
+use Rattle.stage.specs.declared.Stage.{Stage}
+use Rattle.stage.specs.declared.Stage.the-variants.{Idle, TakeObject, LockCell, LookLast, CopyLast, LowerCount, ReturnBucket, ErasePlace, ChooseCell, MakeRoom, WriteTuple, RaiseCount, SwitchPlace, DeleteOld, ReleaseObject}
 use Rattle.stage.specs.Turn.{atEntry, attempt, draw}
 use Rattle.acquire.specs.Acquire.{hold, stage1, stage2, stage3, goBack, stage14}
 use Rattle.erase.specs.Erase.{stage4, stage5, stage6, stage7, freeCell, correct, correctMoved}
@@ -25,7 +27,7 @@ use Rattle.write.specs.Write.{stage9, stage10}
 use Rattle.commit.specs.Commit.{stage11, stage12, stage13}
 use Rattle.tables.specs.Tables.{emptyTables, rightLengths, rightCells, rightTuples, rightIndex, rightHits}
 use Rattle.turns.specs.Stages.{stageOn, lift}
-use Rattle.grid.specs.Update.{After, Result, after, updateStart, updateStep, stepped, started, unless, isIdle, hasRoom, idleUpdaters}
+use Rattle.grid.specs.Update.{After, Result, after, updateStart, updateStep, stepped, started, unless, isIdle, hasRoom, idleUpdater, idleUpdaters}
 
 pub record Row : Type 0 where
   pub gives : List ℕ
@@ -58,6 +60,29 @@ steps : ℕ → ℕ → List Call
 steps l zero = []
 steps l (suc n) = step l ∷ steps l n
 
+-- the number of a stage in document 01, 0 for idle
+stageNo : Stage → ℕ
+stageNo Idle = 0
+stageNo TakeObject = 1
+stageNo (LockCell p) = 2
+stageNo (LookLast p) = 3
+stageNo (CopyLast p m) = 4
+stageNo (LowerCount p m) = 5
+stageNo (ReturnBucket p m b) = 6
+stageNo (ErasePlace p m) = 7
+stageNo ChooseCell = 8
+stageNo MakeRoom = 9
+stageNo WriteTuple = 10
+stageNo (RaiseCount p) = 11
+stageNo (SwitchPlace p) = 12
+stageNo (DeleteOld p) = 13
+stageNo ReleaseObject = 14
+
+-- the stages at which lane 0 stands after each call
+stages : After → List Call → List ℕ
+stages a [] = []
+stages a (k ∷ ks) = let b = after (a .tables) (a .updaters) (result a k) in stageNo (getD (b .updaters) 0 idleUpdater .stage) ∷ stages b ks
+
 fresh-grid : After
 fresh-grid = record { number = 0; tables = emptyTables; updaters = idleUpdaters }
 
@@ -82,6 +107,9 @@ table =
     ∷ row (drop 8 (numbers fresh-grid ((start 0 7 100 100 ∷ steps 0 7) ++ start 0 7 200 200 ∷ steps 0 3))) (0 ∷ 0 ∷ 0 ∷ 22 ∷ [])
     -- to another cell with no former place: 8
     ∷ row (drop 8 (numbers fresh-grid ((start 0 7 100 100 ∷ steps 0 7) ++ start 0 7 2000 100 ∷ steps 0 8))) (0 ∷ 0 ∷ 0 ∷ 0 ∷ 0 ∷ 0 ∷ 0 ∷ 0 ∷ 22 ∷ [])
+    -- a former tuple alone in its cell: stage 3 goes on, stage 5 unlinks, so every stage is passed
+    ∷ row (drop 17 (stages fresh-grid ((start 0 7 100 100 ∷ steps 0 7) ++ (start 0 7 2000 100 ∷ steps 0 8) ++ start 0 7 4000 100 ∷ steps 0 14)))
+    (1 ∷ 2 ∷ 3 ∷ 4 ∷ 5 ∷ 6 ∷ 7 ∷ 8 ∷ 9 ∷ 10 ∷ 11 ∷ 12 ∷ 13 ∷ 14 ∷ 0 ∷ [])
     -- two lanes report one carrier: the second is held at stage 1
     ∷ row (numbers fresh-grid (start 0 7 100 100 ∷ step 0 ∷ start 1 7 300 300 ∷ step 1 ∷ [])) (0 ∷ 0 ∷ 0 ∷ 20 ∷ [])
     ∷ []
@@ -96,5 +124,5 @@ says (r ∷ t) = r .says ∷ says t
 
 -- THE PROOF: every row gives what document 01 says
 pub trials : gives table ≡ says table
-unfolding gives says table corners cornersOn ordered onGrid cellOf pick hash numbers result steps fresh-grid emptyTables idleUpdaters after updateStart updateStep stepped started stageOn lift unless isIdle hasRoom rightLengths rightCells rightTuples rightIndex rightHits need await andThen atEntry attempt draw look take release search probe after# known insert enterAt empty members height withHeight pool-take pool-give fresh numbersFrom encode decode readPlace putPlace erasePlace shift stampOf needSlot stampRange copy overwrite delete sign signOf firstBucket needSome last lower giveBack push makeRoom write raise hold stage1 stage2 stage3 goBack stage14 stage4 stage5 stage6 stage7 freeCell correct correctMoved rewrite lockNew choose stage8 stage9 stage10 stage11 stage12 stage13
+unfolding gives says table stages stageNo corners cornersOn ordered onGrid cellOf pick hash numbers result steps fresh-grid emptyTables idleUpdaters after updateStart updateStep stepped started stageOn lift unless isIdle hasRoom rightLengths rightCells rightTuples rightIndex rightHits need await andThen atEntry attempt draw look take release search probe after# known insert enterAt empty members height withHeight pool-take pool-give fresh numbersFrom encode decode readPlace putPlace erasePlace shift stampOf needSlot stampRange copy overwrite delete sign signOf firstBucket needSome last lower giveBack push makeRoom write raise hold stage1 stage2 stage3 goBack stage14 stage4 stage5 stage6 stage7 freeCell correct correctMoved rewrite lockNew choose stage8 stage9 stage10 stage11 stage12 stage13
 trials = refl
