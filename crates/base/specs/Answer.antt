@@ -1,7 +1,6 @@
 -- Document 01's number for each answer that hands back no value.
 use mathlib.Core.Path.{_≡_, ap, _∙_}
-use mathlib.Core.List.{List, []}
-use Prim.Native.Nat.{ℕ}
+use mathlib.Core.List.{[]}
 use Rattle.base.specs.Outcome.{Told, says, Outcome, corrupt, blocked, done, ended, nothing, ended-corrupt, ended-blocked, ended-done}
 use Rattle.base.specs.declared.Change.{Change}
 use Rattle.base.specs.declared.Change.the-variants.{Corrupt, Done}

@@ -6,7 +6,7 @@ pub use mathlib.Core.List.{List·Memᴰ·tail as there, List·Memᴰ·not-nil as
 use Prim.Native.Nat.{ℕ, zero, suc, _+_, _<_, _≤_}
 use lib.ListN.{length}
 use native.Mathlib.Omega.{arith}
-use Rattle.base.specs.Table.{at-or, clash}
+use Rattle.base.specs.Table.{at-or}
 
 -- b stands in the list: the library's membership, under short names
 abbrev pub In : ℕ → List ℕ → Type 0

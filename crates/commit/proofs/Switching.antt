@@ -7,7 +7,7 @@ use mathlib.Core.List.{List}
 use Prim.Native.Nat.{ℕ, _≤_}
 use lib.ListN.{length}
 use borrow.Author.Tests.{le-ltb}
-use Rattle.base.specs.Outcome.{Outcome, corrupt, blocked, done, need, pick, andThen, says, ended, ended-corrupt, ended-done}
+use Rattle.base.specs.Outcome.{Outcome, corrupt, done, need, pick, andThen, says, ended, ended-corrupt, ended-done}
 use Rattle.base.specs.Table.{both}
 use Rattle.layout.specs.Place.{encode, decode, placeValues, placeReadSays}
 use Rattle.layout.specs.declared.place.Place.{Place}
@@ -17,9 +17,8 @@ use Rattle.layout.proofs.Answers.{place-values, no-values}
 use Rattle.locks.specs.Lock.{release}
 use Rattle.index.specs.Search.{search as sought}
 use Rattle.index.specs.Places.{Shifted, shift}
-use Rattle.index.specs.declared.search.Search.{Search}
 use Rattle.index.specs.declared.search.Search.the-variants.{Found, Empty}
-use Rattle.stage.specs.Turn.{Said, Move, turned, turnTells, turnLeaves, turnSays, advance, atEntry}
+use Rattle.stage.specs.Turn.{Said, turned, turnTells, turnLeaves, turnSays, advance, atEntry}
 use Rattle.stage.specs.declared.Stage.{Stage}
 use Rattle.stage.specs.declared.Turn.{Turn}
 use Rattle.commit.specs.Commit.{Switching, switchingOf, afterSwitching, stage12}

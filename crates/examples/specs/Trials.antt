@@ -8,7 +8,6 @@ use Rattle.base.specs.Lists.{numbersFrom}
 use Rattle.base.specs.Outcome.{pick, one, need, await, andThen}
 use Rattle.layout.specs.Place.{onGrid, cellOf, encode, decode}
 use Rattle.layout.specs.Question.{corners, cornersOn, ordered}
-use Rattle.layout.specs.declared.question.Question.{Question}
 use Rattle.index.specs.Search.{start as hash, search, probe, after as after#, known}
 use Rattle.index.specs.Index.{insert, enterAt, empty}
 use Rattle.index.specs.Places.{readPlace, putPlace, erasePlace, shift}

@@ -2,9 +2,8 @@
 -- They are written without the definitions of the stages: for 12 the stored numbers that a stage uses, with their ranges, and what is missing or
 -- carried outside; for 20 the lock taken, or the readers at stage 6; for 21 the other object's lock at stage 3.
 use mathlib.Core.Bool.{Bool, true, false, not, _&&_, _||_}
-use mathlib.Core.Option.{Option, none, some}
 use mathlib.Core.List.{List, [], _∷_, _++_}
-use Prim.Native.Nat.{ℕ, suc, _+_, _-_, _*_, _/_}
+use Prim.Native.Nat.{ℕ, _+_, _-_, _*_, _/_}
 use lib.Dec.{eqb, ltb, leb}
 use lib.IntN.{ℤ, pos, negsuc}
 use lib.ListN.{getD}

@@ -9,7 +9,7 @@ use Rattle.index.specs.Index.{indexOf}
 use Rattle.stage.specs.declared.Stage.{Stage}
 use Rattle.stage.specs.declared.Updater.{Updater}
 use Rattle.tables.specs.Tables.{Tables, tablesOf, hitsOf, rightLengths, emptyTables}
-use Rattle.grid.specs.Update.{Result, refused, answered, After, unless, idleUpdater, idleUpdaters, withStage}
+use Rattle.grid.specs.Update.{Result, answered, After, unless, idleUpdater, idleUpdaters, withStage}
 
 abbrev pub gridTables : List ℕ → List ℕ → List ℕ → List ℕ → List ℕ → List ℕ → List ℕ → List ℕ → List ℤ → List ℕ → List ℕ → List ℕ → List ℕ → List ℕ → List ℕ → List ℕ → List ℕ → ℕ → Tables
 gridTables first cells count next readers owners xs ys times oids locks current previous pool hits hitxs hitys clock =

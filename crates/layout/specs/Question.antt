@@ -1,8 +1,8 @@
 -- The question of a range query, and the walk of cells for it (document 01: the walk of a sweep).
 -- Crates above use the laws of proofs/Walk.antt and do not unfold `inside`, `visited`, `next` and `walk`.
-use mathlib.Core.Bool.{Bool, true, false, not, _&&_}
+use mathlib.Core.Bool.{Bool, _&&_}
 use mathlib.Core.Option.{Option, none, some}
-use mathlib.Core.List.{List, [], _∷_, _++_}
+use mathlib.Core.List.{List, [], _++_}
 use Prim.Native.Nat.{ℕ, zero, suc, _+_, _-_, _*_, _/_, _%_}
 use lib.Dec.{eqb, ltb, leb}
 use Rattle.base.specs.Lists.{numbersFrom}

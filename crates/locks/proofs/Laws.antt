@@ -1,11 +1,11 @@
 -- The laws of a lock table: when a lock is taken, held or out of range, and what taking and freeing change.
-use mathlib.Core.Path.{_≡_, refl, sym, ap, _∙_}
+use mathlib.Core.Path.{_≡_, sym, ap, _∙_}
 use mathlib.Core.Logic.{_≢_}
 use mathlib.Core.List.{List}
 use Prim.Native.Nat.{ℕ, _<_, _≤_}
 use lib.ListN.{length, set}
-use borrow.Author.Tests.{ltb-true, leb-true, eqb-true, lt-ltb, le-leb, eq-eqb, ne-eqb}
-use Rattle.base.specs.Outcome.{done, blocked, need, await, andThen, need-done, await-done, then-done, then-true, need-true, await-true, done-one}
+use borrow.Author.Tests.{ltb-true, eqb-true, lt-ltb, le-leb, ne-eqb}
+use Rattle.base.specs.Outcome.{done, blocked, need, await, andThen, need-done, await-done, then-done, then-true, need-true, done-one}
 use Rattle.base.specs.Table.{at}
 use Rattle.locks.specs.Lock.{look, take, release}
 

@@ -1,19 +1,17 @@
 -- THE LAWS OF THE POOL, all that the crates above use.
 -- Taking and giving change the list of members by its last number, and everything follows from that equation.
-use mathlib.Core.Path.{_≡_, refl, sym, ap, subst, _∙_}
+use mathlib.Core.Path.{_≡_, sym, ap, _∙_}
 use mathlib.Core.Logic.{_≢_, _⊎_, ⊎-elim}
-use mathlib.Core.Bool.{true, false, not}
 use mathlib.Core.List.{List, [], _∷_, _++_}
-use Prim.Native.Nat.{ℕ, zero, suc, _+_, _-_, _<_, _≤_}
+use Prim.Native.Nat.{ℕ, suc, _+_, _-_, _<_, _≤_}
 use native.Mathlib.Omega.{arith}
 use native.Mathlib.Numerals.{add-one}
-use lib.Dec.{eqb, ltb, leb}
-use lib.ListN.{length, set, length-set, length-append, length-take}
+use lib.ListN.{length, set, length-set, length-append}
 use lib.ListN as list
-use lib.Seq.{getD-set-same, getD-set-other, take-suc, take-set-le, take-suc-set, length-take-le, take-at, getD-at}
+use lib.Seq.{getD-set-same, take-suc, take-set-le, take-suc-set, length-take-le, take-at, getD-at}
 use borrow.Author.Tests.{eq-eqb, ne-eqb, lt-ltb, le-leb, eqb-true, eqb-false, ltb-true, leb-true, not-true}
-use Rattle.base.specs.Lists.{In, here, Once, more, in-or, in-left, in-right, in-append, in-one, in-none, once-last, once-front, once-few, numbersFrom, numbers-in, in-numbers, once-numbers, numbers-length, numbers-last}
-use Rattle.base.specs.Outcome.{Outcome, done, need, need-done, need-true, done-one}
+use Rattle.base.specs.Lists.{In, here, Once, more, in-or, in-left, in-right, in-append, in-one, once-last, once-front, once-few, numbersFrom, numbers-in, in-numbers, once-numbers, numbers-length, numbers-last}
+use Rattle.base.specs.Outcome.{done, need-done, need-true, done-one}
 use Rattle.base.specs.Table.{at, at-or}
 use Rattle.pool.specs.Pool.{Took, height, withHeight, members, Has, size, take, give, fresh, refill}
 

@@ -1,7 +1,7 @@
 -- The bucket pool: a stack of bucket numbers in entries 0 to 511, its height in entry 512.
 -- Crates above use the laws of proofs/Laws.antt and do not unfold these definitions.
 use mathlib.Core.Bool.{Bool, not, _||_}
-use mathlib.Core.List.{List, [], _∷_}
+use mathlib.Core.List.{List, []}
 use Prim.Native.Nat.{ℕ, _+_, _-_}
 use lib.Dec.{eqb, ltb, leb}
 use lib.ListN.{length, set}

@@ -1,6 +1,5 @@
 -- How a step of an update ends, in document 01's numbers, and the words that the stages are written in.
 use mathlib.Core.Option.{Option, none, some}
-use mathlib.Core.List.{List}
 use Prim.Native.Nat.{ℕ, _+_}
 use lib.Dec.{ltb}
 use Rattle.base.specs.Outcome.{Outcome, corrupt, blocked, done, need}

@@ -1,5 +1,5 @@
 -- A stage on its own tables, seen as a stage on all tables: it tells the same, and leaves its own tables in their places.
-use mathlib.Core.Path.{_≡_, refl, sym, ap, _∙_}
+use mathlib.Core.Path.{_≡_, refl, ap}
 use Rattle.base.specs.Outcome.{Outcome, corrupt, blocked, done}
 use Rattle.stage.specs.Turn.{Said, Move, turnTells, turnLeaves, turned}
 use Rattle.turns.specs.Stages.{lift}

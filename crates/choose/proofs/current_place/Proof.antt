@@ -1,5 +1,5 @@
 -- current_place reads the current place: by the test of the point and the end of the search, then as read_place answers.
-use mathlib.Core.Path.{_≡_, sym, _∙_}
+use mathlib.Core.Path.{sym, _∙_}
 use borrow.Author.Tests.{not-true, not-false}
 use Rattle.base.specs.Outcome.{need, tells}
 use Rattle.index.proofs.Probe.{find-search}

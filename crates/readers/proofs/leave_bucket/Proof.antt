@@ -1,5 +1,5 @@
 -- leave_bucket does what `leave` says: one case for each return, by the tests that led there. Where the next bucket is this one, the two stores undo each other.
-use borrow.Author.Tests.{eq-eqb, le-leb, le-ltb, lt-leb, lt-ltb, ne-eqb}
+use borrow.Author.Tests.{eq-eqb, le-leb, le-ltb, lt-leb, lt-ltb}
 use Rattle.base.specs.Outcome.{need, pick, tells, leaves}
 use Rattle.readers.specs.Reader.{leave}
 use mathlib.Core.Path.{refl}

@@ -1,5 +1,5 @@
 -- step_stage does what `stageOn` says for every stage: as the function of the stage's group does, the tables that it leaves alone taken from all.
-use mathlib.Core.Path.{sym, _∙_}
+use mathlib.Core.Path.{_∙_}
 use denote.Ref.{now}
 use Rattle.stage.specs.Turn.{turnTells, turnLeaves}
 use Rattle.turns.specs.Parts.{updateTables}

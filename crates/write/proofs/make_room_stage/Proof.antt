@@ -1,5 +1,5 @@
 -- make_room_stage does what stage 9 says: by the test of the point, then as make_room answers.
-use mathlib.Core.Path.{_≡_, sym, _∙_}
+use mathlib.Core.Path.{sym, _∙_}
 use borrow.Author.Tests.{not-true, not-false}
 use Rattle.base.specs.Outcome.{need, andThen}
 use Rattle.base.specs.Answer.{changed-corrupt, changed-done}

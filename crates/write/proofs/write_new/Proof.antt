@@ -1,5 +1,5 @@
 -- write_new does what stage 10 says: by the tests of the point and of the clock, then as write_tuple answers.
-use mathlib.Core.Path.{_≡_, sym, _∙_}
+use mathlib.Core.Path.{sym, _∙_}
 use borrow.Author.Tests.{le-ltb, lt-ltb, not-true, not-false}
 use Rattle.base.specs.Outcome.{need, andThen}
 use Rattle.cells.specs.Chain.{write}

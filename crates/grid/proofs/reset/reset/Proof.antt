@@ -1,6 +1,6 @@
 -- reset makes the empty grid: one law of Steps.antt for each return, by what each filling ensures.
 use mathlib.Core.Path.{_≡_, refl, sym, _∙_}
-use mathlib.Core.Bool.{Bool, true, false}
+use mathlib.Core.Bool.{Bool}
 use borrow.Author.Tests.{not-true, not-false}
 use denote.Ref.{now}
 use Rattle.base.specs.Answer.{changed-corrupt, changed-done}

@@ -1,6 +1,6 @@
 -- update_step does what `updateStep` says: one law of Steps.antt for each return, on the tables that were lent.
 use mathlib.Core.Path.{_≡_, sym, _∙_}
-use mathlib.Core.Bool.{Bool, true, false}
+use mathlib.Core.Bool.{Bool}
 use borrow.Author.Tests.{not-true, not-false}
 use denote.Ref.{now}
 use Rattle.tables.specs.Tables.{Tables, rightLengths}
