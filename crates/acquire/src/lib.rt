@@ -2,7 +2,8 @@
 // Tables: object, lock and previous place of each index entry (512); lock and first bucket of each cell (256); count of each bucket (512); the tuples' objects (2,048).
 ghost use mathlib.Core.Path.{_≡_};
 ghost use lib.ListN.{length};
-ghost use Rattle.stage.specs.Turn.{turned, turnSays};
+ghost use Rattle.base.specs.Step.{turned};
+ghost use Rattle.stage.specs.Turn.{turnSays};
 ghost use Rattle.acquire.specs.Acquire.{hold, stage1, stage2, locksOf, goBack, stage3, stage14};
 use base::Attempt;
 use base::Change;

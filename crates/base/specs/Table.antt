@@ -23,6 +23,11 @@ upd f i v j = cond (eqb j i) v (f j)
 pub at-or {ℓ} : {C : Type ℓ} (j i : ℕ) → (j ≡ i → C) → (j ≢ i → C) → C
 at-or j i f g = elim (ℕ-discrete j i) [ yes p ↦ f p | no q ↦ g q ]
 
+-- a test is true or false, with the equation in each case
+pub by-test {ℓ} : {C : Type ℓ} (b : Bool) → (b ≡ true → C) → (b ≡ false → C) → C
+by-test true f g = f refl
+by-test false f g = g refl
+
 -- from two constructors that cannot be equal, anything: write `clash (cc)`
 pub clash {ℓ} : {C : Type ℓ} → _≡_ {A = ℕ} 0 1 → C
 clash e = absurd (omega arith)

@@ -18,7 +18,8 @@ use Rattle.locks.specs.Lock.{release}
 use Rattle.index.specs.Search.{search as sought}
 use Rattle.index.specs.Places.{Shifted, shift}
 use Rattle.index.specs.declared.search.Search.the-variants.{Found, Empty}
-use Rattle.stage.specs.Turn.{Said, turned, turnTells, turnLeaves, turnSays, advance, atEntry}
+use Rattle.base.specs.Step.{Said, turned, turnTells, turnLeaves}
+use Rattle.stage.specs.Turn.{turnSays, advance, atEntry}
 use Rattle.stage.specs.declared.Stage.{Stage}
 use Rattle.stage.specs.declared.Turn.{Turn}
 use Rattle.commit.specs.Commit.{Switching, switchingOf, afterSwitching, stage12}
@@ -101,4 +102,4 @@ pub beside : (d : Switching) (l l′ : List ℕ) (o : Outcome (List ℕ)) (c′ 
 unfolding andThen turnTells turnLeaves
 beside d l l′ o c′ p′ next r e h =
     let h′ = rw e at h in
-    rw e (ap (λ (q : Said × List ℕ). (q .0, switchingOf c′ p′ (q .1))) h′)
+    rw e (ap (λ (q : Said Stage × List ℕ). (q .0, switchingOf c′ p′ (q .1))) h′)

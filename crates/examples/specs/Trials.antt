@@ -7,14 +7,14 @@ use lib.ListN.{drop, getD}
 use Rattle.base.specs.Lists.{numbersFrom}
 use Rattle.base.specs.Outcome.{pick, one, need, await, andThen}
 use Rattle.layout.specs.Place.{onGrid, cellOf, encode, decode}
-use Rattle.layout.specs.Question.{corners, cornersOn, ordered}
+use Rattle.layout.specs.Question.{corners, cornersOn, ordered, inside, visited, next}
 use Rattle.index.specs.Search.{start as hash, search, probe, after as after#, known}
 use Rattle.index.specs.Index.{insert, enterAt, empty}
 use Rattle.index.specs.Places.{readPlace, putPlace, erasePlace, shift}
 use Rattle.pool.specs.Pool.{height, withHeight, members, fresh, take as pool-take, give as pool-give}
 use Rattle.locks.specs.Lock.{look, take, release}
 use Rattle.slots.specs.Stamp.{stampOf, stampRange}
-use Rattle.slots.specs.Tuple.{needSlot, copy, overwrite, delete, sign, signOf}
+use Rattle.slots.specs.Tuple.{needSlot, copy, overwrite, delete, sign, signOf, seen, read, seenBy}
 use Rattle.cells.specs.Chain.{firstBucket, needSome, last, lower, giveBack, push, makeRoom, write, raise}
 use Rattle.stage.specs.declared.Stage.{Stage}
 use Rattle.stage.specs.declared.Stage.the-variants.{Idle, TakeObject, LockCell, LookLast, CopyLast, LowerCount, ReturnBucket, ErasePlace, ChooseCell, MakeRoom, WriteTuple, RaiseCount, SwitchPlace, DeleteOld, ReleaseObject}
@@ -25,8 +25,17 @@ use Rattle.choose.specs.Choose.{rewrite, lockNew, choose, stage8}
 use Rattle.write.specs.Write.{stage9, stage10}
 use Rattle.commit.specs.Commit.{stage11, stage12, stage13}
 use Rattle.tables.specs.Tables.{emptyTables, rightLengths, rightCells, rightTuples, rightIndex, rightHits}
-use Rattle.turns.specs.Stages.{stageOn, lift}
-use Rattle.grid.specs.Update.{After, Result, after, updateStart, updateStep, stepped, started, unless, isIdle, hasRoom, idleUpdater, idleUpdaters}
+use Rattle.base.specs.Step.{lift}
+use Rattle.turns.specs.Stages.{stageOn}
+use Rattle.readers.specs.Reader.{addReader, takeReader, leaveFor}
+use Rattle.hits.specs.Hits.{lookFrom, enlist, note}
+use Rattle.query.specs.Scan.{counted, afterCell, enterFree, enterStep, leaveLast, leaveStep, comparable, consider, readStep}
+use Rattle.calls.specs.Call.{after, unless, stepped}
+use Rattle.updates.specs.Update.{updateStart, updateStep, started, isIdle, hasRoom, idleUpdater, idleUpdaters}
+use Rattle.queries.specs.Scans.{scanOn}
+use Rattle.queries.specs.Query.{queryStart, queryStep, idleQueries, isFinished, isIdle as isIdleQuery}
+use Rattle.grid.specs.Collect.{collectQuery, entriesFrom}
+use Rattle.grid.specs.Run.{Grid, emptyGrid, Call, startUpdate, stepUpdate, startQuery, stepQuery, collect, Answer, call, run, answers}
 
 pub record Row : Type 0 where
   pub gives : List ℕ
@@ -39,25 +48,37 @@ row g s = record { gives = g; says = s }
 abbrev cornersNumber : ℕ → ℕ → ℕ → ℕ → ℕ
 cornersNumber x0 y0 x1 y1 = corners (record { x0 = x0; y0 = y0; x1 = x1; y1 = y1 }) .number
 
--- ---- runs of updates from the empty grid
+-- ---- runs from the empty grid
 
-data Call : Type 0 where
-  start : ℕ → ℕ → ℕ → ℕ → Call
-  step : ℕ → Call
+abbrev start : ℕ → ℕ → ℕ → ℕ → Call
+start l k x y = startUpdate l k x y
 
-result : After → Call → Result
-result a (start l k x y) = updateStart (a .tables) (a .updaters) l k x y
-result a (step l) = updateStep (a .tables) (a .updaters) l
+abbrev step : ℕ → Call
+step l = stepUpdate l
+
+abbrev sweep : ℕ → ℕ → ℕ → ℕ → ℕ → Call
+sweep l x0 y0 x1 y1 = startQuery l (record { x0 = x0; y0 = y0; x1 = x1; y1 = y1 })
 
 -- the numbers that the calls give, one after the other
-numbers : After → List Call → List ℕ
-numbers a [] = []
-numbers a (k ∷ ks) = let b = after (a .tables) (a .updaters) (result a k) in b .number ∷ numbers b ks
+numbersOf : List Answer → List ℕ
+numbersOf [] = []
+numbersOf (a ∷ l) = a .number ∷ numbersOf l
+
+abbrev numbers : Grid → List Call → List ℕ
+numbers g cs = numbersOf (answers cs g)
 
 -- n steps of one lane
 steps : ℕ → ℕ → List Call
 steps l zero = []
 steps l (suc n) = step l ∷ steps l n
+
+sweeps : ℕ → ℕ → List Call
+sweeps l zero = []
+sweeps l (suc n) = stepQuery l ∷ sweeps l n
+
+-- the steps and the entries that a collection from lane 0 hands back after the calls, after its number
+collected : List Call → List ℕ
+collected cs = let a = call (collect 0 768) (run cs emptyGrid) .0 in a .number ∷ a .steps ∷ a .part
 
 -- the number of a stage in document 01, 0 for idle
 stageNo : Stage → ℕ
@@ -78,12 +99,9 @@ stageNo (DeleteOld p) = 13
 stageNo ReleaseObject = 14
 
 -- the stages at which lane 0 stands after each call
-stages : After → List Call → List ℕ
-stages a [] = []
-stages a (k ∷ ks) = let b = after (a .tables) (a .updaters) (result a k) in stageNo (getD (b .updaters) 0 idleUpdater .stage) ∷ stages b ks
-
-fresh-grid : After
-fresh-grid = record { number = 0; tables = emptyTables; updaters = idleUpdaters }
+stages : Grid → List Call → List ℕ
+stages g [] = []
+stages g (k ∷ ks) = let h = call k g .1 in stageNo (getD (h .updaters) 0 idleUpdater .stage) ∷ stages h ks
 
 pub table : List Row
 table =
@@ -101,16 +119,28 @@ table =
     ∷ row (one (cornersNumber 100 100 100 100)) (one 0)
     ∷ row (one (cornersNumber 101 100 100 100)) (one 6)
     -- first report: 7 steps
-    ∷ row (numbers fresh-grid (start 0 7 100 100 ∷ steps 0 7)) (0 ∷ 0 ∷ 0 ∷ 0 ∷ 0 ∷ 0 ∷ 0 ∷ 22 ∷ [])
+    ∷ row (numbers emptyGrid (start 0 7 100 100 ∷ steps 0 7)) (0 ∷ 0 ∷ 0 ∷ 0 ∷ 0 ∷ 0 ∷ 0 ∷ 22 ∷ [])
     -- within the cell: 3
-    ∷ row (drop 8 (numbers fresh-grid ((start 0 7 100 100 ∷ steps 0 7) ++ start 0 7 200 200 ∷ steps 0 3))) (0 ∷ 0 ∷ 0 ∷ 22 ∷ [])
+    ∷ row (drop 8 (numbers emptyGrid ((start 0 7 100 100 ∷ steps 0 7) ++ start 0 7 200 200 ∷ steps 0 3))) (0 ∷ 0 ∷ 0 ∷ 22 ∷ [])
     -- to another cell with no former place: 8
-    ∷ row (drop 8 (numbers fresh-grid ((start 0 7 100 100 ∷ steps 0 7) ++ start 0 7 2000 100 ∷ steps 0 8))) (0 ∷ 0 ∷ 0 ∷ 0 ∷ 0 ∷ 0 ∷ 0 ∷ 0 ∷ 22 ∷ [])
+    ∷ row (drop 8 (numbers emptyGrid ((start 0 7 100 100 ∷ steps 0 7) ++ start 0 7 2000 100 ∷ steps 0 8))) (0 ∷ 0 ∷ 0 ∷ 0 ∷ 0 ∷ 0 ∷ 0 ∷ 0 ∷ 22 ∷ [])
     -- a former tuple alone in its cell: stage 3 goes on, stage 5 unlinks, so every stage is passed
-    ∷ row (drop 17 (stages fresh-grid ((start 0 7 100 100 ∷ steps 0 7) ++ (start 0 7 2000 100 ∷ steps 0 8) ++ start 0 7 4000 100 ∷ steps 0 14)))
+    ∷ row (drop 17 (stages emptyGrid ((start 0 7 100 100 ∷ steps 0 7) ++ (start 0 7 2000 100 ∷ steps 0 8) ++ start 0 7 4000 100 ∷ steps 0 14)))
     (1 ∷ 2 ∷ 3 ∷ 4 ∷ 5 ∷ 6 ∷ 7 ∷ 8 ∷ 9 ∷ 10 ∷ 11 ∷ 12 ∷ 13 ∷ 14 ∷ 0 ∷ [])
     -- two lanes report one carrier: the second is held at stage 1
-    ∷ row (numbers fresh-grid (start 0 7 100 100 ∷ step 0 ∷ start 1 7 300 300 ∷ step 1 ∷ [])) (0 ∷ 0 ∷ 0 ∷ 20 ∷ [])
+    ∷ row (numbers emptyGrid (start 0 7 100 100 ∷ step 0 ∷ start 1 7 300 300 ∷ step 1 ∷ [])) (0 ∷ 0 ∷ 0 ∷ 20 ∷ [])
+    -- a rectangle of one point is accepted, and a carrier on it is listed; lower x one above upper gives 6
+    ∷ row (drop 8 (numbers emptyGrid ((start 0 7 100 100 ∷ steps 0 7) ++ sweep 0 100 100 100 100 ∷ sweep 1 101 100 100 100 ∷ []))) (0 ∷ 6 ∷ [])
+    ∷ row (collected ((start 0 7 100 100 ∷ steps 0 7) ++ sweep 0 100 100 100 100 ∷ sweeps 0 3)) (0 ∷ 3 ∷ 7 ∷ 100 ∷ 100 ∷ [])
+    -- an empty deck, one cell: one step, no entry
+    ∷ row (numbers emptyGrid (sweep 0 0 0 1023 1023 ∷ sweeps 0 1)) (0 ∷ 22 ∷ [])
+    ∷ row (collected (sweep 0 0 0 1023 1023 ∷ sweeps 0 1)) (0 ∷ 1 ∷ [])
+    -- carrier 9, alone and reported once, is at (2100, 100); the sweep has passed cell 0; 9 goes to (100, 100) to the end: listed at (2100, 100), 5 steps
+    ∷ row (collected ((start 0 9 2100 100 ∷ steps 0 7) ++ (sweep 0 0 0 3071 100 ∷ sweeps 0 1) ++ (start 0 9 100 100 ∷ steps 0 8) ++ sweeps 0 4)) (0 ∷ 5 ∷ 9 ∷ 2100 ∷ 100 ∷ [])
+    -- carrier 9, alone, was at (100, 100), stands at (1100, 100); the same sweep finishes cells 0 and 1; 9 goes to (2100, 100): listed there after 9 steps
+    ∷ row (collected ((start 0 9 100 100 ∷ steps 0 7) ++ (start 0 9 1100 100 ∷ steps 0 8) ++ (sweep 0 0 0 3071 100 ∷ sweeps 0 6) ++ (start 0 9 2100 100 ∷ steps 0 14) ++ sweeps 0 3)) (0 ∷ 9 ∷ 9 ∷ 2100 ∷ 100 ∷ [])
+    -- which finishes with that step
+    ∷ row (drop 39 (numbers emptyGrid ((start 0 9 100 100 ∷ steps 0 7) ++ (start 0 9 1100 100 ∷ steps 0 8) ++ (sweep 0 0 0 3071 100 ∷ sweeps 0 6) ++ (start 0 9 2100 100 ∷ steps 0 14) ++ sweeps 0 3))) (0 ∷ 0 ∷ 22 ∷ [])
     ∷ []
 
 pub gives : List Row → List (List ℕ)
@@ -123,5 +153,5 @@ says (r ∷ t) = r .says ∷ says t
 
 -- THE PROOF: every row gives what document 01 says
 pub trials : gives table ≡ says table
-unfolding gives says table stages stageNo corners cornersOn ordered onGrid cellOf pick hash numbers result steps fresh-grid emptyTables idleUpdaters after updateStart updateStep stepped started stageOn lift unless isIdle hasRoom rightLengths rightCells rightTuples rightIndex rightHits need await andThen atEntry attempt draw look take release search probe after# known insert enterAt empty members height withHeight pool-take pool-give fresh numbersFrom encode decode readPlace putPlace erasePlace shift stampOf needSlot stampRange copy overwrite delete sign signOf firstBucket needSome last lower giveBack push makeRoom write raise hold stage1 stage2 stage3 goBack stage14 stage4 stage5 stage6 stage7 freeCell correct correctMoved rewrite lockNew choose stage8 stage9 stage10 stage11 stage12 stage13
+unfolding gives says table stages stageNo corners cornersOn ordered onGrid cellOf pick hash numbersOf sweeps collected steps call run answers emptyGrid emptyTables inside visited next addReader takeReader leaveFor lookFrom enlist note counted afterCell enterFree enterStep leaveLast leaveStep comparable consider readStep scanOn queryStart queryStep idleQueries isFinished isIdleQuery collectQuery entriesFrom seen read seenBy idleUpdaters after updateStart updateStep stepped started stageOn lift unless isIdle hasRoom rightLengths rightCells rightTuples rightIndex rightHits need await andThen atEntry attempt draw look take release search probe after# known insert enterAt empty members height withHeight pool-take pool-give fresh numbersFrom encode decode readPlace putPlace erasePlace shift stampOf needSlot stampRange copy overwrite delete sign signOf firstBucket needSome last lower giveBack push makeRoom write raise hold stage1 stage2 stage3 goBack stage14 stage4 stage5 stage6 stage7 freeCell correct correctMoved rewrite lockNew choose stage8 stage9 stage10 stage11 stage12 stage13
 trials = refl

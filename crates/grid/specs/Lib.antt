@@ -1,3 +1,3 @@
-pub mod Causes
+pub mod Collect
 pub mod Grid
-pub mod Update
+pub mod Run

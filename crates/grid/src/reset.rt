@@ -1,19 +1,28 @@
 // The empty grid (document 01: a fresh deck).
 ghost use mathlib.Core.Path.{_≡_};
-ghost use Rattle.grid.specs.Grid.{gridTables, afterOf};
-ghost use Rattle.grid.specs.Update.{after};
-ghost use Rattle.grid.specs.Grid.{resetGrid};
-use crate::lanes::Stepped;
+ghost use Rattle.calls.specs.Call.{gridTables, after, afterOf};
+ghost use Rattle.grid.specs.Grid.{lanesOf, resetGrid};
 use base::Change;
+use layout::question::Question;
+use query::Query;
+use query::Scan;
 use stage::Stage;
 use stage::Updater;
 use tables::fill::clear_times;
 use tables::fill::fill_numbers;
 use tables::lengths::right_all;
 
-// Makes the tables an empty grid and every updater idle. Gives 0, or 12 where a table has a wrong length.
+// The number that reset gives (document 01), and the lanes afterwards.
+pub struct Fresh {
+    pub number: u32,
+    pub updaters: [Updater; 8],
+    pub queries: [Query; 4],
+}
+
+// Makes the tables an empty grid and every lane idle. Gives 0, or 12 where a table has a wrong length.
 pub fn reset(
     updaters: [Updater; 8],
+    queries: [Query; 4],
     first: &mut [u32],
     cells: &mut [u32],
     count: &mut [u32],
@@ -32,8 +41,8 @@ pub fn reset(
     hitxs: &mut [u32],
     hitys: &mut [u32],
     clock: &mut u32,
-) -> Stepped
-    ensures { λ r. ⌜ after (gridTables (now (first .entry)) (now (cells .entry)) (now (count .entry)) (now (next .entry)) (now (readers .entry)) (now (owners .entry)) (now (xs .entry)) (now (ys .entry)) (now (times .entry)) (now (oids .entry)) (now (locks .entry)) (now (current .entry)) (now (previous .entry)) (now (pool .entry)) (now (hits .entry)) (now (hitxs .entry)) (now (hitys .entry)) (now (clock .entry))) updaters (resetGrid (gridTables (now (first .entry)) (now (cells .entry)) (now (count .entry)) (now (next .entry)) (now (readers .entry)) (now (owners .entry)) (now (xs .entry)) (now (ys .entry)) (now (times .entry)) (now (oids .entry)) (now (locks .entry)) (now (current .entry)) (now (previous .entry)) (now (pool .entry)) (now (hits .entry)) (now (hitxs .entry)) (now (hitys .entry)) (now (clock .entry)))) ≡ afterOf (r .number) (gridTables (now (first .exit)) (now (cells .exit)) (now (count .exit)) (now (next .exit)) (now (readers .exit)) (now (owners .exit)) (now (xs .exit)) (now (ys .exit)) (now (times .exit)) (now (oids .exit)) (now (locks .exit)) (now (current .exit)) (now (previous .exit)) (now (pool .exit)) (now (hits .exit)) (now (hitxs .exit)) (now (hitys .exit)) (now (clock .exit))) (r .updaters) ⌝ }
+) -> Fresh
+    ensures { λ r. ⌜ after (gridTables (now (first .entry)) (now (cells .entry)) (now (count .entry)) (now (next .entry)) (now (readers .entry)) (now (owners .entry)) (now (xs .entry)) (now (ys .entry)) (now (times .entry)) (now (oids .entry)) (now (locks .entry)) (now (current .entry)) (now (previous .entry)) (now (pool .entry)) (now (hits .entry)) (now (hitxs .entry)) (now (hitys .entry)) (now (clock .entry))) (lanesOf updaters queries) (resetGrid (gridTables (now (first .entry)) (now (cells .entry)) (now (count .entry)) (now (next .entry)) (now (readers .entry)) (now (owners .entry)) (now (xs .entry)) (now (ys .entry)) (now (times .entry)) (now (oids .entry)) (now (locks .entry)) (now (current .entry)) (now (previous .entry)) (now (pool .entry)) (now (hits .entry)) (now (hitxs .entry)) (now (hitys .entry)) (now (clock .entry)))) ≡ afterOf (r .number) (gridTables (now (first .exit)) (now (cells .exit)) (now (count .exit)) (now (next .exit)) (now (readers .exit)) (now (owners .exit)) (now (xs .exit)) (now (ys .exit)) (now (times .exit)) (now (oids .exit)) (now (locks .exit)) (now (current .exit)) (now (previous .exit)) (now (pool .exit)) (now (hits .exit)) (now (hitxs .exit)) (now (hitys .exit)) (now (clock .exit))) (lanesOf (r .updaters) (r .queries)) ⌝ }
 {
     if !right_all(
         first.len(),
@@ -54,15 +63,17 @@ pub fn reset(
         hitxs.len(),
         hitys.len(),
     ) {
-        return Stepped {
+        return Fresh {
             number: 12,
             updaters,
+            queries,
         };
     }
     let Change::Done = pool::refill_pool(pool) else {
-        return Stepped {
+        return Fresh {
             number: 12,
             updaters,
+            queries,
         };
     };
     fill_numbers(first, 512);
@@ -82,14 +93,28 @@ pub fn reset(
     fill_numbers(hitys, 0);
     clear_times(times);
     *clock = 0;
-    let idle = Updater {
+    let update = Updater {
         oid: 0,
         x: 0,
         y: 0,
         stage: Stage::Idle,
     };
-    Stepped {
+    let question = Question {
+        x0: 0,
+        y0: 0,
+        x1: 0,
+        y1: 0,
+    };
+    let query = Query {
+        question,
+        stamp: 0,
+        hits: 0,
+        steps: 0,
+        stage: Scan::Idle,
+    };
+    Fresh {
         number: 0,
-        updaters: [idle; 8],
+        updaters: [update; 8],
+        queries: [query; 4],
     }
 }

@@ -10,6 +10,10 @@ use denote.Enum.Declared.{tagOf}
 use Rattle.base.specs.Table.{clash}
 use Rattle.base.specs.Outcome.{Outcome, corrupt, done, tells, says, one, told-corrupt, told-done}
 use Rattle.layout.specs.Place.{placeNumberSays, placeReadSays, placeValues, placeList}
+use Rattle.layout.specs.Question.{visitValues, nextCellSays}
+use Rattle.layout.specs.declared.question.Visit.{Visit}
+use Rattle.layout.specs.declared.question.NextCell.{NextCell}
+use Rattle.layout.specs.declared.question.NextCell.the-variants.{Corrupt as NextCorrupt, End, Cell}
 use Rattle.layout.specs.declared.place.Place.{Place}
 use Rattle.layout.specs.declared.place.PlaceNumber.{PlaceNumber}
 use Rattle.layout.specs.declared.place.PlaceNumber.the-variants.{Corrupt, Number}
@@ -62,3 +66,24 @@ module _ (o : Outcome (Option Place)) where
   -- decode_place answered a place
   pub read-at : (r : PlaceRead) (p : Place) → tells placeValues o ≡ placeReadSays r → r ≡ At p → o ≡ done (some p)
   read-at r p e q = let d = told-done placeValues o (e ∙ ap placeReadSays q) in d .1 ∙ ap done (place-values (d .0) p (d .2))
+
+-- ---- the cell after one
+
+no-visit : (v : Option Visit) → visitValues v ≡ [] → v ≡ none
+no-visit none e = refl
+no-visit (some v) e = clash (cc)
+
+visit-values : (v : Option Visit) (w : Visit) → visitValues v ≡ one (w .cell) → v ≡ some w
+visit-values none w e = clash (cc)
+visit-values (some v) w e = let c : v .cell ≡ w .cell = cc in ap some (λ i. record { cell = c i })
+
+module _ (o : Outcome (Option Visit)) {r : NextCell} (e : tells visitValues o ≡ nextCellSays r) where
+  -- next_cell answered corrupt, the end, or a cell: `next` came to it
+  pub next-broken : r ≡ NextCorrupt → o ≡ corrupt
+  next-broken q = told-corrupt visitValues o (e ∙ ap nextCellSays q)
+
+  pub next-end : r ≡ End → o ≡ done none
+  next-end q = let d = told-done visitValues o (e ∙ ap nextCellSays q) in d .1 ∙ ap done (no-visit (d .0) (d .2))
+
+  pub next-cell : (v : Visit) → r ≡ Cell v → o ≡ done (some v)
+  next-cell v q = let d = told-done visitValues o (e ∙ ap nextCellSays q) in d .1 ∙ ap done (visit-values (d .0) v (d .2))

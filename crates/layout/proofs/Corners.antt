@@ -61,3 +61,35 @@ not-accepted Crossed o e = omega (arith, same-number e)
 -- where the answer is such a one, the tests fail
 pub refused-tests : (q : Question) (r : Corners) → corners q ≡ cornersSays r → OneOf (1 ∷ 2 ∷ []) (tagOf the-type r) → (cornersOn q && ordered q) ≡ false
 refused-tests q r e o = not-so (cornersOn q && ordered q) (λ h. not-accepted r o (sym e ∙ proper-iff q .1 h))
+
+-- the number tells which test failed
+told-accepted : (a b : Bool) → pick a (pick b (says 0 []) (says 6 [])) (says 5 []) ≡ says 0 [] → (a ≡ true) × (b ≡ true)
+unfolding pick
+told-accepted true true e = (refl, refl)
+told-accepted true false e = absurd (omega (arith, same-number e))
+told-accepted false b e = absurd (omega (arith, same-number e))
+
+told-off : (a b : Bool) → pick a (pick b (says 0 []) (says 6 [])) (says 5 []) ≡ says 5 [] → a ≡ false
+unfolding pick
+told-off true true e = absurd (omega (arith, same-number e))
+told-off true false e = absurd (omega (arith, same-number e))
+told-off false b e = refl
+
+told-crossed : (a b : Bool) → pick a (pick b (says 0 []) (says 6 [])) (says 5 []) ≡ says 6 [] → (a ≡ true) × (b ≡ false)
+unfolding pick
+told-crossed true true e = absurd (omega (arith, same-number e))
+told-crossed true false e = (refl, refl)
+told-crossed false b e = absurd (omega (arith, same-number e))
+
+module _ (q : Question) {r : Corners} (e : corners q ≡ cornersSays r) where
+  pub corners-accepted : r ≡ Accepted → (cornersOn q ≡ true) × (ordered q ≡ true)
+  unfolding corners
+  corners-accepted p = told-accepted (cornersOn q) (ordered q) (e ∙ ap cornersSays p)
+
+  pub corners-off : r ≡ OffGrid → cornersOn q ≡ false
+  unfolding corners
+  corners-off p = told-off (cornersOn q) (ordered q) (e ∙ ap cornersSays p)
+
+  pub corners-crossed : r ≡ Crossed → (cornersOn q ≡ true) × (ordered q ≡ false)
+  unfolding corners
+  corners-crossed p = told-crossed (cornersOn q) (ordered q) (e ∙ ap cornersSays p)

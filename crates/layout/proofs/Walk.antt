@@ -9,10 +9,11 @@ use mathlib.Core.Option.{none, some}
 use Prim.Native.Nat.{ℕ, _+_, _-_, _*_, _/_, _%_, _<_, max}
 use native.Mathlib.Omega.{arith}
 use lib.ListN.{length}
-use Rattle.base.specs.Outcome.{done, corrupt, need}
-use Rattle.base.specs.Table.{at-or, clash}
+use lib.Dec.{eqb}
+use Rattle.base.specs.Outcome.{done, corrupt, need, pick}
+use Rattle.base.specs.Table.{at-or, by-test, clash}
 use Rattle.layout.specs.Place.{onGrid, cellOf}
-use Rattle.layout.specs.Question.{inside, columns, rows, walk, cellsTouched, firstVisit, lastCell, visited, next}
+use Rattle.layout.specs.Question.{inside, columns, rows, walk, cellsTouched, firstVisit, lastCell, visited, rowBelow, next}
 use Rattle.layout.specs.declared.question.Question.{Question}
 use Rattle.layout.specs.declared.question.Visit.{Visit}
 use Rattle.layout.proofs.Bools.{leb-iff, need-done-iff}
@@ -124,6 +125,19 @@ module _ (q : Question) where
   pub next-corrupt : (c : ℕ) → visited q c ≡ false → next q c ≡ corrupt
   unfolding next need
   next-corrupt c e = rw e
+
+  -- from a visited one it is none after the last, else another
+  pub next-ends : (c : ℕ) → visited q c ≡ true → eqb c (lastCell q) ≡ true → next q c ≡ done none
+  unfolding next need pick
+  next-ends c e l = rw (e, l)
+
+  pub next-goes : (c : ℕ) → visited q c ≡ true → eqb c (lastCell q) ≡ false → (v : Visit) × (next q c ≡ done (some v))
+  unfolding next need pick
+  next-goes c e l = by-test (eqb (c % 16) (q .x1 / 1024)) (λ r. (record { cell = rowBelow q c }, rw (e, l, r))) (λ r. (record { cell = c + 1 }, rw (e, l, r)))
+
+  -- a visited cell is one of the 256
+  pub visited-below : (c : ℕ) → visited q c ≡ true → c < 256
+  visited-below c e = let w = visited-walk c e in walk-below (w .0) c (w .1)
 
   -- of two cells that stand one after the other in the walk, the second follows the first
   walk-follows : Proper q → (pre : List ℕ) (c d : ℕ) (rest : List ℕ) → walk q ≡ pre ++ c ∷ d ∷ rest → Follows q c d

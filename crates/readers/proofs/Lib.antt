@@ -1,1 +1,2 @@
 mod Leaving
+pub mod Answers

@@ -1,10 +1,11 @@
-// Readers: how a query enters the chain of a cell, and goes from bucket to bucket.
-// Tables: lock and first bucket of each cell (256); count, next and readers of each bucket (512). The lengths are the caller's to check.
+// Readers: how a query stands in a bucket of a chain, and goes from one to the next.
+// Tables: count and readers of each bucket (512). The lengths are the caller's to check.
 ghost use mathlib.Core.Path.{_≡_};
 ghost use lib.ListN.{length};
-ghost use Rattle.base.specs.Outcome.{ended};
-ghost use Rattle.readers.specs.Reader.{Reading, enterFree, enter, leaveLast, leave, standingValues, enteredSays, leftSays};
-use base::Attempt;
+ghost use Rattle.base.specs.Outcome.{ended, nothing};
+ghost use Rattle.base.specs.Answer.{changeSays};
+ghost use Rattle.readers.specs.Reader.{Reading, addReader, takeReader, leaveFor, standingValues, stoodSays};
+use base::Change;
 
 // The bucket in which a query stands, and how many of its slots are left to read.
 pub struct Standing {
@@ -12,126 +13,89 @@ pub struct Standing {
     pub left: u32,
 }
 
-pub enum Entered {
+pub enum Stood {
     Corrupt,
-    Blocked,
-    Passed,
     In(Standing),
 }
 
-pub enum Left {
-    Corrupt,
-    End,
-    In(Standing),
-}
-
-// Enters a cell that is not locked.
-fn enter_free(first: &[u32], count: &[u32], readers: &mut [u32], cell: u32) -> Entered
-    requires { ⌜ (length (now first) ≡ 256) × (length (now count) ≡ 512) × (length (now readers) ≡ 512) ⌝ }
-    ensures { λ r. ⌜ ended (λ (d : Reading). standingValues (d .standing)) (λ (d : Reading). d .readers) (now (readers .entry)) (enterFree (now (first .entry)) (now (count .entry)) (now (readers .entry)) cell) ≡ (enteredSays r, now (readers .exit)) ⌝ }
+// A reader more at a bucket, and its count noted.
+pub fn add_reader(count: &[u32], readers: &mut [u32], bucket: u32) -> Stood
+    requires { ⌜ (length (now count) ≡ 512) × (length (now readers) ≡ 512) ⌝ }
+    ensures { λ r. ⌜ ended standingValues (λ (d : Reading). d .readers) (now (readers .entry)) (addReader (now (count .entry)) (now (readers .entry)) bucket) ≡ (stoodSays r, now (readers .exit)) ⌝ }
 {
-    if cell >= 256 {
-        return Entered::Corrupt;
-    }
-    let bucket = first[cell as usize];
-    if bucket > 512 {
-        return Entered::Corrupt;
-    }
-    if bucket == 512 {
-        return Entered::Passed;
+    if bucket >= 512 {
+        return Stood::Corrupt;
     }
     let b = bucket as usize;
     let n = readers[b];
     if n >= 4 {
-        return Entered::Corrupt;
+        return Stood::Corrupt;
     }
     let left = count[b];
     if left > 4 {
-        return Entered::Corrupt;
+        return Stood::Corrupt;
     }
     readers[b] = n + 1;
-    Entered::In(Standing { bucket, left })
+    Stood::In(Standing { bucket, left })
 }
 
-pub fn enter_cell(
-    locks: &[u32],
-    first: &[u32],
-    count: &[u32],
-    readers: &mut [u32],
-    cell: u32,
-) -> Entered
-    requires { ⌜ (length (now first) ≡ 256) × (length (now count) ≡ 512) × (length (now readers) ≡ 512) ⌝ }
-    ensures { λ r. ⌜ ended (λ (d : Reading). standingValues (d .standing)) (λ (d : Reading). d .readers) (now (readers .entry)) (enter (now (locks .entry)) (now (first .entry)) (now (count .entry)) (now (readers .entry)) cell) ≡ (enteredSays r, now (readers .exit)) ⌝ }
-{
-    let lock = locks::look_lock(locks, cell as usize);
-    match lock {
-        Attempt::Corrupt => Entered::Corrupt,
-        Attempt::Blocked => Entered::Blocked,
-        Attempt::Done => enter_free(first, count, readers, cell),
-    }
-}
-
-// Leaves the last bucket of a chain.
-fn leave_last(readers: &mut [u32], bucket: u32) -> Left
+// A reader less.
+pub fn take_reader(readers: &mut [u32], bucket: u32) -> Change
     requires { ⌜ length (now readers) ≡ 512 ⌝ }
-    ensures { λ r. ⌜ ended (λ (d : Reading). standingValues (d .standing)) (λ (d : Reading). d .readers) (now (readers .entry)) (leaveLast (now (readers .entry)) bucket) ≡ (leftSays r, now (readers .exit)) ⌝ }
+    ensures { λ r. ⌜ ended nothing (λ l. l) (now (readers .entry)) (takeReader (now (readers .entry)) bucket) ≡ (changeSays r, now (readers .exit)) ⌝ }
 {
     if bucket >= 512 {
-        return Left::Corrupt;
+        return Change::Corrupt;
     }
     let b = bucket as usize;
     let n = readers[b];
     if n == 0 {
-        return Left::Corrupt;
+        return Change::Corrupt;
     }
     if n > 4 {
-        return Left::Corrupt;
+        return Change::Corrupt;
     }
     readers[b] = n - 1;
-    Left::End
+    Change::Done
 }
 
 // Leaves a bucket for the next one of the chain. A chain may be damaged, and the next bucket this one itself.
-pub fn leave_bucket(next: &[u32], count: &[u32], readers: &mut [u32], bucket: u32) -> Left
-    requires { ⌜ (length (now next) ≡ 512) × (length (now count) ≡ 512) × (length (now readers) ≡ 512) ⌝ }
-    ensures { λ r. ⌜ ended (λ (d : Reading). standingValues (d .standing)) (λ (d : Reading). d .readers) (now (readers .entry)) (leave (now (next .entry)) (now (count .entry)) (now (readers .entry)) bucket) ≡ (leftSays r, now (readers .exit)) ⌝ }
+pub fn leave_for(count: &[u32], readers: &mut [u32], bucket: u32, below: u32) -> Stood
+    requires { ⌜ (length (now count) ≡ 512) × (length (now readers) ≡ 512) ⌝ }
+    ensures { λ r. ⌜ ended standingValues (λ (d : Reading). d .readers) (now (readers .entry)) (leaveFor (now (count .entry)) (now (readers .entry)) bucket below) ≡ (stoodSays r, now (readers .exit)) ⌝ }
 {
-    if bucket >= 512 {
-        return Left::Corrupt;
-    }
-    let b = bucket as usize;
-    let below = next[b];
-    if below > 512 {
-        return Left::Corrupt;
-    }
-    if below == 512 {
-        return leave_last(readers, bucket);
+    if below >= 512 {
+        return Stood::Corrupt;
     }
     let n = below as usize;
     let more = readers[n];
     if more >= 4 {
-        return Left::Corrupt;
+        return Stood::Corrupt;
     }
     let left = count[n];
     if left > 4 {
-        return Left::Corrupt;
+        return Stood::Corrupt;
     }
+    if bucket >= 512 {
+        return Stood::Corrupt;
+    }
+    let b = bucket as usize;
     if b == n {
-        return Left::In(Standing {
+        return Stood::In(Standing {
             bucket: below,
             left,
         });
     }
     let less = readers[b];
     if less == 0 {
-        return Left::Corrupt;
+        return Stood::Corrupt;
     }
     if less > 4 {
-        return Left::Corrupt;
+        return Stood::Corrupt;
     }
     readers[n] = more + 1;
     readers[b] = less - 1;
-    Left::In(Standing {
+    Stood::In(Standing {
         bucket: below,
         left,
     })

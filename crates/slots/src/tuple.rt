@@ -34,7 +34,7 @@ pub enum Sign {
 }
 
 // Whether a stamp may have this magnitude.
-fn in_range(time: u32) -> bool
+pub fn in_range(time: u32) -> bool
     ensures { λ r. ⌜ r ≡ stampRange time ⌝ }
 {
     if time == 0 {

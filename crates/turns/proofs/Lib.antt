@@ -1,2 +1,1 @@
 mod Groups
-mod Lift

@@ -4,7 +4,8 @@ use Prim.Native.Nat.{ℕ}
 use lib.IntN.{ℤ}
 use Rattle.slots.specs.Tuple.{tuplesOf}
 use Rattle.index.specs.Index.{indexOf}
-use Rattle.tables.specs.Tables.{Tables, Hits, tablesOf}
+use Rattle.hits.specs.Hits.{Hits}
+use Rattle.tables.specs.Tables.{Tables, tablesOf}
 
 -- all tables, those that locking works on given
 abbrev pub lockTables : Tables → List ℕ → List ℕ → List ℕ → List ℕ → List ℕ → List ℕ → List ℕ → Tables

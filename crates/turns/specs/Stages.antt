@@ -1,7 +1,8 @@
 -- The fourteen stages, each on all tables.
 use mathlib.Core.List.{List}
 use Prim.Native.Nat.{ℕ}
-use Rattle.base.specs.Outcome.{Outcome, corrupt, blocked, done}
+use Rattle.base.specs.Outcome.{Outcome, corrupt}
+use Rattle.base.specs.Step.{lift}
 use Rattle.cells.specs.Chain.{Chains, chainsOf}
 use Rattle.stage.specs.Turn.{Move}
 use Rattle.stage.specs.declared.Stage.{Stage}
@@ -13,12 +14,6 @@ use Rattle.choose.specs.Choose.{stage8, Placing, placingOf}
 use Rattle.write.specs.Write.{stage9, stage10, Drawn, drawnOf}
 use Rattle.commit.specs.Commit.{stage11, stage12, stage13, Switching, switchingOf, Deleting, deletingOf}
 use Rattle.tables.specs.Tables.{Tables, withCells, withCount, withFirst, withNext, withTuples, withTimes, withPool, withClock, withEntries, withLocks}
-
--- a stage's move over its own tables, as one over all tables
-unfoldable pub lift : {A B : Type 0} → (A → B) → Outcome (Move A) → Outcome (Move B)
-lift g corrupt = corrupt
-lift g blocked = blocked
-lift g (done m) = done (record { number = m .number; stage = m .stage; tables = g (m .tables) })
 
 -- The stage of an updater, on all tables. An idle one has none: the call is refused before.
 unfoldable pub stageOn : Tables → ℕ → Updater → Stage → Outcome (Move Tables)

@@ -1,7 +1,8 @@
 // Stages 11 to 13 of an update.
 ghost use mathlib.Core.Path.{_≡_};
 ghost use lib.ListN.{length};
-ghost use Rattle.stage.specs.Turn.{turned, turnSays};
+ghost use Rattle.base.specs.Step.{turned};
+ghost use Rattle.stage.specs.Turn.{turnSays};
 ghost use Rattle.tables.specs.Tables.{Tables};
 ghost use Rattle.turns.specs.Parts.{commitTables};
 ghost use Rattle.turns.specs.Stages.{stageOn, groupOf};

@@ -1,8 +1,9 @@
 // One stage of an update, on all the tables that updates work on.
 ghost use mathlib.Core.Path.{_≡_};
 ghost use lib.ListN.{length};
-ghost use Rattle.stage.specs.Turn.{turned, turnSays};
-ghost use Rattle.tables.specs.Tables.{Hits};
+ghost use Rattle.base.specs.Step.{turned};
+ghost use Rattle.stage.specs.Turn.{turnSays};
+ghost use Rattle.hits.specs.Hits.{Hits};
 ghost use Rattle.turns.specs.Parts.{updateTables};
 ghost use Rattle.turns.specs.Stages.{stageOn, groupOf};
 

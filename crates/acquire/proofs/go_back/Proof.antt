@@ -2,7 +2,8 @@
 use borrow.Author.Tests.{le-ltb, lt-ltb}
 use Rattle.base.specs.Outcome.{need, andThen}
 use Rattle.locks.specs.Lock.{release}
-use Rattle.stage.specs.Turn.{turnTells, turnLeaves, atEntry}
+use Rattle.base.specs.Step.{turnTells, turnLeaves}
+use Rattle.stage.specs.Turn.{atEntry}
 use Rattle.acquire.specs.Acquire.{goBack}
 use Rattle.index.proofs.Probe.{answered as sought}
 use borrow.Author.Needs.{needs}

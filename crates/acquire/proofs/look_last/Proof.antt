@@ -9,7 +9,8 @@ use Rattle.locks.specs.Lock.{take}
 use Rattle.cells.specs.Chain.{last}
 use Rattle.index.specs.Search.{search as entryOf}
 use Rattle.index.specs.declared.search.Search.the-variants.{Found}
-use Rattle.stage.specs.Turn.{turnTells, turnLeaves, atEntry, attempt}
+use Rattle.base.specs.Step.{turnTells, turnLeaves}
+use Rattle.stage.specs.Turn.{atEntry, attempt}
 use Rattle.acquire.specs.Acquire.{stage3}
 use Rattle.cells.proofs.Answers.{last-corrupt, last-at}
 use Rattle.index.proofs.Probe.{answered as sought}

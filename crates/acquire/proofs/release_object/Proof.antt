@@ -2,7 +2,8 @@
 use Rattle.base.specs.Outcome.{andThen}
 use Rattle.base.specs.Answer.{changed-corrupt, changed-done}
 use Rattle.locks.specs.Lock.{release}
-use Rattle.stage.specs.Turn.{turnTells, turnLeaves, atEntry}
+use Rattle.base.specs.Step.{turnTells, turnLeaves}
+use Rattle.stage.specs.Turn.{atEntry}
 use Rattle.acquire.specs.Acquire.{stage14}
 use Rattle.index.proofs.Probe.{answered as sought}
 use borrow.Author.Needs.{needs}

@@ -8,7 +8,8 @@ use Rattle.locks.specs.Lock.{look}
 use Rattle.index.specs.Search.{search as entryOf}
 use Rattle.index.specs.declared.search.Search.the-variants.{Found}
 use Rattle.index.specs.Places.{readPlace}
-use Rattle.stage.specs.Turn.{turnTells, turnLeaves, atEntry}
+use Rattle.base.specs.Step.{turnTells, turnLeaves}
+use Rattle.stage.specs.Turn.{atEntry}
 use Rattle.acquire.specs.Acquire.{stage1}
 use Rattle.index.proofs.Probe.{answered as sought}
 use borrow.Author.Needs.{needs}

@@ -6,7 +6,7 @@ use Rattle.base.specs.Outcome.{Outcome, corrupt, done}
 use Rattle.layout.specs.declared.place.Place.{Place}
 use Rattle.layout.proofs.Answers.{read-corrupt, read-nowhere, read-at}
 use Rattle.slots.specs.Tuple.{tuplesOf}
-use Rattle.stage.specs.Turn.{turnTells, turnLeaves}
+use Rattle.base.specs.Step.{turnTells, turnLeaves}
 use Rattle.choose.specs.Choose.{Placing, placingOf}
 use Rattle.choose.proofs.Choosing.{here, choose-corrupt, choose-nowhere, choose-other, choose-same}
 use borrow.Author.Needs.{needs}

@@ -2,7 +2,7 @@
 use Rattle.base.specs.Outcome.{andThen}
 use Rattle.base.specs.Answer.{attempt-corrupt, attempt-blocked, attempt-done}
 use Rattle.locks.specs.Lock.{take}
-use Rattle.stage.specs.Turn.{turnTells, turnLeaves}
+use Rattle.base.specs.Step.{turnTells, turnLeaves}
 use Rattle.choose.specs.Choose.{lockNew}
 use borrow.Author.Needs.{needs}
 use Rattle.choose.proofs.lock_new.Statement.{statement}

@@ -3,7 +3,8 @@ use borrow.Author.Tests.{le-ltb, lt-ltb}
 use Rattle.base.specs.Outcome.{need, andThen}
 use Rattle.base.specs.Answer.{changed-corrupt, changed-done}
 use Rattle.slots.specs.Tuple.{overwrite}
-use Rattle.stage.specs.Turn.{draw, turnTells, turnLeaves}
+use Rattle.base.specs.Step.{turnTells, turnLeaves}
+use Rattle.stage.specs.Turn.{draw}
 use Rattle.choose.specs.Choose.{rewrite}
 use borrow.Author.Needs.{needs}
 use Rattle.choose.proofs.rewrite_tuple.Statement.{statement}

@@ -2,7 +2,7 @@
 use Rattle.base.specs.Outcome.{andThen}
 use Rattle.base.specs.Answer.{changed-corrupt, changed-done}
 use Rattle.locks.specs.Lock.{release}
-use Rattle.stage.specs.Turn.{turnTells, turnLeaves}
+use Rattle.base.specs.Step.{turnTells, turnLeaves}
 use borrow.Author.Needs.{needs}
 use Rattle.commit.proofs.free_cell.Statement.{statement}
 use Rattle.commit.proofs.free_cell.Tie as tie

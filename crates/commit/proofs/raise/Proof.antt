@@ -2,7 +2,7 @@
 use Rattle.base.specs.Outcome.{andThen}
 use Rattle.base.specs.Answer.{changed-corrupt, changed-done}
 use Rattle.cells.specs.Chain.{raise as raised}
-use Rattle.stage.specs.Turn.{turnTells, turnLeaves}
+use Rattle.base.specs.Step.{turnTells, turnLeaves}
 use Rattle.commit.specs.Commit.{stage11}
 use borrow.Author.Needs.{needs}
 use Rattle.commit.proofs.raise.Statement.{statement}

@@ -9,7 +9,7 @@ use Rattle.locks.proofs.Laws.{release-some}
 use Rattle.index.specs.Search.{search as sought}
 use Rattle.index.specs.Places.{shift}
 use Rattle.index.proofs.Probe.{find-search}
-use Rattle.stage.specs.Turn.{turnTells, turnLeaves}
+use Rattle.base.specs.Step.{turnTells, turnLeaves}
 use Rattle.commit.specs.Commit.{Switching, switchingOf}
 use Rattle.commit.proofs.Switching.{shifted-corrupt, shifted-done, switch-missing, switch-far, switch-corrupt, switch-done, beside}
 use borrow.Author.Needs.{needs}

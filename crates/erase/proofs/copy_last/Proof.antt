@@ -3,7 +3,7 @@ use Rattle.base.specs.Outcome.{andThen}
 use Rattle.base.specs.Answer.{changed-corrupt, changed-done}
 use Rattle.slots.specs.Tuple.{copy}
 use Rattle.cells.specs.Chain.{last}
-use Rattle.stage.specs.Turn.{turnTells, turnLeaves}
+use Rattle.base.specs.Step.{turnTells, turnLeaves}
 use Rattle.erase.specs.Erase.{stage4}
 use Rattle.cells.proofs.Answers.{last-corrupt, last-at}
 use borrow.Author.Needs.{needs}

@@ -12,7 +12,7 @@ use Rattle.slots.specs.Tuple.{sign}
 use Rattle.index.specs.Search.{search as sought}
 use Rattle.index.specs.declared.search.Search.the-variants.{Found}
 use Rattle.index.proofs.Probe.{find-search, found-below}
-use Rattle.stage.specs.Turn.{turnTells, turnLeaves}
+use Rattle.base.specs.Step.{turnTells, turnLeaves}
 use Rattle.erase.specs.Erase.{Erasing, erasingOf}
 use Rattle.slots.proofs.Answers.{sign-corrupt, sign-deleted, sign-current, sign-done}
 use Rattle.erase.proofs.Entries.{Sized, numbered-cell, moving-missing, moving-unsigned, moving-outside, moving-current, moving-deleted}

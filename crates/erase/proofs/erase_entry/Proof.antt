@@ -6,7 +6,7 @@ use native.Mathlib.Omega.{arith}
 use denote.Ref.{now}
 use Rattle.index.specs.Search.{search as sought}
 use Rattle.index.proofs.Probe.{find-search, found-below}
-use Rattle.stage.specs.Turn.{turnTells, turnLeaves}
+use Rattle.base.specs.Step.{turnTells, turnLeaves}
 use Rattle.erase.specs.Erase.{Erasing, erasingOf}
 use Rattle.erase.proofs.Entries.{Sized, erase-missing, erase-another, erase-outside, erase-own}
 use borrow.Author.Needs.{needs}

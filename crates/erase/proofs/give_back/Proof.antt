@@ -2,7 +2,7 @@
 use Rattle.base.specs.Outcome.{andThen}
 use Rattle.base.specs.Answer.{attempt-corrupt, attempt-blocked, attempt-done}
 use Rattle.cells.specs.Chain.{giveBack}
-use Rattle.stage.specs.Turn.{turnTells, turnLeaves}
+use Rattle.base.specs.Step.{turnTells, turnLeaves}
 use Rattle.erase.specs.Erase.{stage6}
 use borrow.Author.Needs.{needs}
 use Rattle.erase.proofs.give_back.Statement.{statement}

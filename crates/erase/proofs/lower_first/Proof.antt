@@ -1,7 +1,7 @@
 -- lower_first does what `stage5` says: as lower_count answers.
 use Rattle.base.specs.Outcome.{andThen}
 use Rattle.cells.specs.Chain.{lower}
-use Rattle.stage.specs.Turn.{turnTells, turnLeaves}
+use Rattle.base.specs.Step.{turnTells, turnLeaves}
 use Rattle.erase.specs.Erase.{stage5}
 use Rattle.cells.proofs.Answers.{lowered-corrupt, lowered-kept, lowered-unlinked}
 use borrow.Author.Needs.{needs}

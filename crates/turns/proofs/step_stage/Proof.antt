@@ -1,7 +1,7 @@
 -- step_stage does what `stageOn` says for every stage: as the function of the stage's group does, the tables that it leaves alone taken from all.
 use mathlib.Core.Path.{_∙_}
 use denote.Ref.{now}
-use Rattle.stage.specs.Turn.{turnTells, turnLeaves}
+use Rattle.base.specs.Step.{turnTells, turnLeaves}
 use Rattle.turns.specs.Parts.{updateTables}
 use Rattle.turns.specs.Stages.{stageOn}
 use Rattle.turns.proofs.Groups.{no-group}

@@ -4,7 +4,7 @@ use borrow.Author.Tests.{not-true, not-false}
 use Rattle.base.specs.Outcome.{need, andThen}
 use Rattle.base.specs.Answer.{changed-corrupt, changed-done}
 use Rattle.cells.specs.Chain.{makeRoom}
-use Rattle.stage.specs.Turn.{turnTells, turnLeaves}
+use Rattle.base.specs.Step.{turnTells, turnLeaves}
 use Rattle.write.specs.Write.{stage9}
 use borrow.Author.Needs.{needs}
 use Rattle.write.proofs.make_room_stage.Statement.{statement}

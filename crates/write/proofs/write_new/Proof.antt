@@ -3,7 +3,8 @@ use mathlib.Core.Path.{sym, _∙_}
 use borrow.Author.Tests.{le-ltb, lt-ltb, not-true, not-false}
 use Rattle.base.specs.Outcome.{need, andThen}
 use Rattle.cells.specs.Chain.{write}
-use Rattle.stage.specs.Turn.{draw, turnTells, turnLeaves}
+use Rattle.base.specs.Step.{turnTells, turnLeaves}
+use Rattle.stage.specs.Turn.{draw}
 use Rattle.write.specs.Write.{stage10}
 use Rattle.cells.proofs.Answers.{written-corrupt, written-at}
 use borrow.Author.Needs.{needs}

@@ -1,7 +1,7 @@
 -- commit_stage does what `stageOn` says for stages 11 to 13: each arm as its stage's function does, seen on all tables.
 use Rattle.turns.specs.Stages.{stageOn}
 use Rattle.turns.proofs.Groups.{committing-last}
-use Rattle.turns.proofs.Lift.{lifted}
+use Rattle.base.specs.Step.{lifted}
 use borrow.Author.Needs.{needs}
 use Rattle.turns.proofs.committing.commit_stage.Statement.{statement}
 use Rattle.turns.proofs.committing.commit_stage.Tie as tie

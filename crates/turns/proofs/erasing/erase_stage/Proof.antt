@@ -1,7 +1,7 @@
 -- erase_stage does what `stageOn` says for stages 4 to 7: each arm as its stage's function does, seen on all tables.
 use Rattle.turns.specs.Stages.{stageOn}
 use Rattle.turns.proofs.Groups.{erasing-last}
-use Rattle.turns.proofs.Lift.{lifted}
+use Rattle.base.specs.Step.{lifted}
 use borrow.Author.Needs.{needs}
 use Rattle.turns.proofs.erasing.erase_stage.Statement.{statement}
 use Rattle.turns.proofs.erasing.erase_stage.Tie as tie

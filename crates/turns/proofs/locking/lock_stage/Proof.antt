@@ -1,7 +1,7 @@
 -- lock_stage does what `stageOn` says for stages 1, 2, 3 and 14: each arm as its stage's function does, seen on all tables.
 use Rattle.turns.specs.Stages.{stageOn}
 use Rattle.turns.proofs.Groups.{locking-last}
-use Rattle.turns.proofs.Lift.{lifted}
+use Rattle.base.specs.Step.{lifted}
 use borrow.Author.Needs.{needs}
 use Rattle.turns.proofs.locking.lock_stage.Statement.{statement}
 use Rattle.turns.proofs.locking.lock_stage.Tie as tie

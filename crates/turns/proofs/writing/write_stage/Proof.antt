@@ -1,7 +1,7 @@
 -- write_stage does what `stageOn` says for stages 8 to 10: each arm as its stage's function does, seen on all tables.
 use Rattle.turns.specs.Stages.{stageOn}
 use Rattle.turns.proofs.Groups.{writing-last}
-use Rattle.turns.proofs.Lift.{lifted}
+use Rattle.base.specs.Step.{lifted}
 use borrow.Author.Needs.{needs}
 use Rattle.turns.proofs.writing.write_stage.Statement.{statement}
 use Rattle.turns.proofs.writing.write_stage.Tie as tie

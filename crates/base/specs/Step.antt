@@ -1,0 +1,87 @@
+-- How one step of a lane ends: document 01's number, what the lane is at next, and the tables.
+use mathlib.Core.Path.{_≡_, refl, ap}
+use mathlib.Core.Option.{Option, none, some}
+use Prim.Native.Nat.{ℕ}
+use native.Mathlib.Omega.{arith}
+use Rattle.base.specs.Outcome.{Outcome, corrupt, blocked, done}
+
+-- what is told of a step: its number, and what the lane is at next, none where it stays as it is
+pub record Said (S : Type 0) : Type 0 where
+  pub number : ℕ
+  pub next : Option S
+
+abbrev pub said : {S : Type 0} → ℕ → Option S → Said S
+said n s = record { number = n; next = s }
+
+-- what a step comes to, unless it is refused or blocked
+pub record Step (S B : Type 0) : Type 0 where
+  pub number : ℕ
+  pub next : S
+  pub tables : B
+
+abbrev pub stepOf : {S B : Type 0} → ℕ → S → B → Step S B
+stepOf n s t = record { number = n; next = s; tables = t }
+
+-- broken tables: 12; held: 20; else the step's own number
+unfoldable pub turnTells : {S B : Type 0} → Outcome (Step S B) → Said S
+turnTells corrupt = said 12 none
+turnTells blocked = said 20 none
+turnTells (done m) = said (m .number) (some (m .next))
+
+-- the tables afterwards: those at the start, t, unless it moved
+unfoldable pub turnLeaves : {S B : Type 0} → B → Outcome (Step S B) → B
+turnLeaves t corrupt = t
+turnLeaves t blocked = t
+turnLeaves t (done m) = m .tables
+
+-- both: what the contract of a step is stated with
+abbrev pub turned : {S B : Type 0} → B → Outcome (Step S B) → Said S × B
+turned t o = (turnTells o, turnLeaves t o)
+
+-- what is told of an outcome that is what a lane does next: broken tables 12, held 20, else 0
+unfoldable pub told : {S : Type 0} → Outcome S → Said S
+told corrupt = said 12 none
+told blocked = said 20 none
+told (done s) = said 0 (some s)
+
+-- a step over its own tables, as one over more
+unfoldable pub lift : {S A B : Type 0} → (A → B) → Outcome (Step S A) → Outcome (Step S B)
+lift g corrupt = corrupt
+lift g blocked = blocked
+lift g (done m) = done (stepOf (m .number) (m .next) (g (m .tables)))
+
+-- ---- laws: it tells the same there, and leaves its own tables in their places
+
+module _ {S A B : Type 0} (g : A → B) (a : A) where
+  tells-lift : (o : Outcome (Step S A)) → turnTells (lift g o) ≡ turnTells o
+  unfolding turnTells lift
+  tells-lift corrupt = refl
+  tells-lift blocked = refl
+  tells-lift (done m) = refl
+
+  leaves-lift : (o : Outcome (Step S A)) → turnLeaves (g a) (lift g o) ≡ g (turnLeaves a o)
+  unfolding turnLeaves lift
+  leaves-lift corrupt = refl
+  leaves-lift blocked = refl
+  leaves-lift (done m) = refl
+
+  pub lifted : (o : Outcome (Step S A)) (s : Said S) (a′ : A) → turned a o ≡ (s, a′) → turned (g a) (lift g o) ≡ (s, g a′)
+  lifted o s a′ e = rw (tells-lift o, leaves-lift o) (ap (λ (p : Said S × A). (p .0, g (p .1))) e)
+
+-- ---- laws: who was told the number knows the outcome
+
+module _ {S : Type 0} where
+  number-of : {a b : Said S} → a ≡ b → a .number ≡ b .number
+  number-of e = ap (λ (r : Said S). r .number) e
+
+  pub said-corrupt : (o : Outcome S) {n : Option S} → told o ≡ said 12 n → o ≡ corrupt
+  unfolding told
+  said-corrupt corrupt e = refl
+  said-corrupt blocked e = absurd (omega (arith, number-of e))
+  said-corrupt (done s) e = absurd (omega (arith, number-of e))
+
+  pub said-done : (o : Outcome S) {s : S} → told o ≡ said 0 (some s) → o ≡ done s
+  unfolding told
+  said-done corrupt e = absurd (omega (arith, number-of e))
+  said-done blocked e = absurd (omega (arith, number-of e))
+  said-done (done r) {s} e = let n : some r ≡ some s = ap (λ (a : Said S). a .next) e in cc

@@ -1,0 +1,3 @@
+pub mod Moves
+pub mod Numbers
+pub mod Tests

@@ -1,0 +1,51 @@
+-- What a call comes to, over all tables and the lanes L that it works on.
+use mathlib.Core.Bool.{Bool, true, false}
+use mathlib.Core.Option.{Option, none, some}
+use mathlib.Core.List.{List}
+use Prim.Native.Nat.{ℕ}
+use lib.IntN.{ℤ}
+use Rattle.base.specs.Outcome.{Outcome, corrupt, blocked, done}
+use Rattle.base.specs.Step.{Step}
+use Rattle.slots.specs.Tuple.{tuplesOf}
+use Rattle.index.specs.Index.{indexOf}
+use Rattle.hits.specs.Hits.{hitsOf}
+use Rattle.tables.specs.Tables.{Tables, tablesOf}
+
+-- refused with a number, which changes nothing, or answered with a number, the tables and the lanes afterwards
+pub data Result (L : Type 0) : Type 0 where
+  refused : ℕ → Result L
+  answered : ℕ → Tables → L → Result L
+
+-- the number, and everything afterwards
+pub record After (L : Type 0) : Type 0 where
+  pub number : ℕ
+  pub tables : Tables
+  pub lanes : L
+
+abbrev pub afterOf : {L : Type 0} → ℕ → Tables → L → After L
+afterOf n t ls = record { number = n; tables = t; lanes = ls }
+
+unfoldable pub after : {L : Type 0} → Tables → L → Result L → After L
+after t ls (refused n) = afterOf n t ls
+after t ls (answered n t′ ls′) = afterOf n t′ ls′
+
+-- refuse with a number unless the test holds
+unfoldable pub unless : {L : Type 0} → Bool → ℕ → Result L → Result L
+unless true n k = k
+unless false n k = refused n
+
+-- A step of a lane has ended: refused with 12; blocked with 20, nothing changed; else its number, and the lane at what comes next.
+unfoldable pub stepped : {S L : Type 0} → Tables → L → (S → L) → Outcome (Step S Tables) → Result L
+stepped t ls put corrupt = refused 12
+stepped t ls put blocked = answered 20 t ls
+stepped t ls put (done m) = answered (m .number) (m .tables) (put (m .next))
+
+-- the lanes, with one at what comes next, if anything does
+abbrev pub nextLanes : {S L : Type 0} → L → (S → L) → Option S → L
+nextLanes ls put none = ls
+nextLanes ls put (some s) = put s
+
+-- the tables as the operations are lent them
+abbrev pub gridTables : List ℕ → List ℕ → List ℕ → List ℕ → List ℕ → List ℕ → List ℕ → List ℕ → List ℤ → List ℕ → List ℕ → List ℕ → List ℕ → List ℕ → List ℕ → List ℕ → List ℕ → ℕ → Tables
+gridTables first cells count next readers owners xs ys times oids locks current previous pool hits hitxs hitys clock =
+    tablesOf first cells count next readers (tuplesOf owners xs ys times) (indexOf oids locks current previous) pool (hitsOf hits hitxs hitys) clock

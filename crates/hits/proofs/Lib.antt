@@ -1,0 +1,3 @@
+mod Noting
+pub mod Answers
+pub mod Look

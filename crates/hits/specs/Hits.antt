@@ -1,0 +1,65 @@
+-- The results of range queries (document 01: the lists of the sweeps): object, x and y of each hit. The list of query l begins at entry 256 × l.
+-- Crates above use the laws of proofs/Look.antt and do not unfold `lookFrom`.
+use mathlib.Core.Option.{Option, none, some}
+use mathlib.Core.List.{List, []}
+use Prim.Native.Nat.{ℕ, zero, suc, _+_, _*_}
+use lib.Dec.{eqb, ltb, leb}
+use lib.ListN.{set}
+use Rattle.base.specs.Outcome.{Told, says, Outcome, done, need, pick, one}
+use Rattle.base.specs.Table.{at}
+use Rattle.slots.specs.declared.tuple.Seen.{Seen}
+use Rattle.hits.specs.declared.Listed.{Listed}
+use Rattle.hits.specs.declared.Listed.the-variants.{Missing, At}
+use Rattle.hits.specs.declared.Noted.{Noted}
+use Rattle.hits.specs.declared.Noted.the-variants.{Corrupt, Size}
+
+pub record Hits : Type 0 where
+  pub oid : List ℕ
+  pub x : List ℕ
+  pub y : List ℕ
+
+abbrev pub hitsOf : List ℕ → List ℕ → List ℕ → Hits
+hitsOf o x y = record { oid = o; x = x; y = y }
+
+-- a tuple's object and place at an entry
+abbrev pub putHit : Hits → ℕ → Seen → Hits
+putHit h i t = hitsOf (set (h .oid) i (t .oid)) (set (h .x) i (t .x)) (set (h .y) i (t .y))
+
+-- Look object k up in n entries from i on: the first that matches is meant.
+unfoldable pub lookFrom : List ℕ → ℕ → ℕ → ℕ → Option ℕ
+lookFrom l k zero i = none
+lookFrom l k (suc n) i = pick (eqb (at l i) k) (some i) (lookFrom l k n (suc i))
+
+abbrev pub listedValues : Option ℕ → List ℕ
+listedValues none = []
+listedValues (some i) = one i
+
+-- 0, and the entry if the object is listed
+abbrev pub listedSays : Listed → Told
+listedSays Missing = says 0 []
+listedSays (At i) = says 0 (one i)
+
+-- the lists, and the size of the query's own
+pub record Listing : Type 0 where
+  pub hits : Hits
+  pub size : ℕ
+
+abbrev pub listingOf : Hits → ℕ → Listing
+listingOf h n = record { hits = h; size = n }
+
+-- A tuple whose object is listed replaces its entry in its place if it is current; one whose object is not listed is added at the end.
+unfoldable pub enlist : Hits → ℕ → ℕ → Seen → Option ℕ → Outcome Listing
+enlist h l n t (some i) = pick (t .deleted) (done (listingOf h n)) (done (listingOf (putHit h i t) n))
+enlist h l n t none = need (ltb n 256) (done (listingOf (putHit h (256 * l + n) t) (n + 1)))
+
+-- Note a tuple in the list of query l, which has n entries.
+unfoldable pub note : Hits → ℕ → ℕ → Seen → Outcome Listing
+note h l n t = need (leb n 256) (enlist h l n t (lookFrom (h .oid) (t .oid) n (256 * l)))
+
+abbrev pub sizeOf : Listing → List ℕ
+sizeOf d = one (d .size)
+
+-- broken tables, a full list too: 12; else 0 and the size of the list
+abbrev pub notedSays : Noted → Told
+notedSays Corrupt = says 12 []
+notedSays (Size n) = says 0 (one n)

@@ -1,0 +1,67 @@
+-- enter_step does what `enterStep` says: by the test of the cell, as look_lock answers, then as enter_free does.
+use mathlib.Core.Path.{_≡_, refl, ap, sym, _∙_}
+use borrow.Author.Tests.{not-true, not-false}
+use Rattle.base.specs.Answer.{attemptSays}
+use Rattle.base.specs.Outcome.{need, andThen, nothing, told-corrupt, told-blocked, told-done}
+use Rattle.base.specs.Step.{turnTells, turnLeaves}
+use Rattle.locks.specs.Lock.{look}
+use Rattle.query.specs.Scan.{enterStep}
+use borrow.Author.Needs.{needs}
+use Rattle.query.proofs.entering.enter_step.Statement.{statement}
+use Rattle.query.proofs.entering.enter_step.Tie as tie
+use Rattle.layout.proofs.question.is_visited.Reads as is-visited-reads
+use Rattle.locks.proofs.look_lock.Reads as look-lock-reads
+use Rattle.query.proofs.entering.enter_free.Reads as enter-free-reads
+
+is-visited-requires : tie.Need-is-visited-requires
+is-visited-requires c κs = search needs
+
+returns : tie.Need-returns
+unfolding enterStep need andThen turnTells turnLeaves
+returns c = rw (sym (c .before .is-visited .ensures) ∙ not-true (c .before .is-visited .result) (c .if1 .taken))
+
+look-lock-requires : tie.Need-look-lock-requires
+look-lock-requires c κs = search needs
+
+enum-told : tie.Need-enum-told
+enum-told c = search needs
+
+enum-told-2 : tie.Need-enum-told-2
+enum-told-2 c = search needs
+
+enum-told-3 : tie.Need-enum-told-3
+enum-told-3 c = search needs
+
+enter-free-requires : tie.Need-enter-free-requires
+enter-free-requires c κs = search needs
+
+returns-2 : tie.Need-returns-2
+unfolding enterStep need andThen turnTells turnLeaves
+returns-2 c = rw (sym (c .before .before .before .before .is-visited .ensures) ∙ not-false (c .before .before .before .before .is-visited .result) (c .before .before .before .if1 .left), told-corrupt nothing (look _ _) (c .before .before .look-lock .ensures ∙ ap attemptSays (c .enum-told .given .1)))
+
+returns-3 : tie.Need-returns-3
+unfolding enterStep need andThen turnTells turnLeaves
+returns-3 c = rw (sym (c .before .before .before .before .is-visited .ensures) ∙ not-false (c .before .before .before .before .is-visited .result) (c .before .before .before .if1 .left), told-blocked nothing (look _ _) (c .before .before .look-lock .ensures ∙ ap attemptSays (c .enum-told2 .given .1)))
+
+same-length : tie.Need-same-length
+same-length c = search needs
+
+returns-4 : tie.Need-returns-4
+unfolding enterStep need andThen
+returns-4 c = rw (sym (c .before .before .before .before .before .before .before .before .is-visited .ensures) ∙ not-false (c .before .before .before .before .before .before .before .before .is-visited .result) (c .before .before .before .before .before .before .before .if1 .left), told-done nothing (look _ _) (c .before .before .before .before .before .before .look-lock .ensures ∙ ap attemptSays (c .before .before .before .before .enum-told3 .given .1)) .1) (c .before .before .enter-free .ensures)
+
+pub enter-step-spec : {M : Type 1} → statement M
+enter-step-spec =
+    tie.close
+    (tie.spec
+    is-visited-requires
+    returns
+    look-lock-requires
+    enum-told
+    enum-told-2
+    enum-told-3
+    enter-free-requires
+    returns-2
+    returns-3
+    same-length
+    returns-4)
