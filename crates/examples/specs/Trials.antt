@@ -18,7 +18,7 @@ use Rattle.slots.specs.Tuple.{needSlot, copy, overwrite, delete, sign, signOf, 
 use Rattle.cells.specs.Chain.{firstBucket, needSome, last, lower, giveBack, push, makeRoom, write, raise}
 use Rattle.stage.specs.declared.Stage.{Stage}
 use Rattle.stage.specs.declared.Stage.the-variants.{Idle, TakeObject, LockCell, LookLast, CopyLast, LowerCount, ReturnBucket, ErasePlace, ChooseCell, MakeRoom, WriteTuple, RaiseCount, SwitchPlace, DeleteOld, ReleaseObject}
-use Rattle.stage.specs.Turn.{atEntry, attempt, draw}
+use Rattle.stage.specs.Turn.{atEntry, attempt, draw, isIdle}
 use Rattle.acquire.specs.Acquire.{hold, stage1, stage2, stage3, goBack, stage14}
 use Rattle.erase.specs.Erase.{stage4, stage5, stage6, stage7, freeCell, correct, correctMoved}
 use Rattle.choose.specs.Choose.{rewrite, lockNew, choose, stage8}
@@ -31,7 +31,7 @@ use Rattle.readers.specs.Reader.{addReader, takeReader, leaveFor}
 use Rattle.hits.specs.Hits.{lookFrom, enlist, note}
 use Rattle.query.specs.Scan.{counted, afterCell, enterFree, enterStep, leaveLast, leaveStep, comparable, consider, readStep}
 use Rattle.calls.specs.Call.{after, unless, stepped}
-use Rattle.updates.specs.Update.{updateStart, updateStep, started, isIdle, hasRoom, idleUpdater, idleUpdaters}
+use Rattle.updates.specs.Update.{updateStart, updateStep, started, hasRoom, idleUpdater, idleUpdaters}
 use Rattle.queries.specs.Scans.{scanOn}
 use Rattle.queries.specs.Query.{queryStart, queryStep, idleQueries, isFinished, isIdle as isIdleQuery}
 use Rattle.grid.specs.Collect.{collectQuery, entriesFrom}
@@ -41,7 +41,7 @@ pub record Row : Type 0 where
   pub gives : List ℕ
   pub says : List ℕ
 
-abbrev row : List ℕ → List ℕ → Row
+abbrev pub row : List ℕ → List ℕ → Row
 row g s = record { gives = g; says = s }
 
 -- the number for a rectangle by its corners
@@ -50,17 +50,17 @@ cornersNumber x0 y0 x1 y1 = corners (record { x0 = x0; y0 = y0; x1 = x1; y1 = y1
 
 -- ---- runs from the empty grid
 
-abbrev start : ℕ → ℕ → ℕ → ℕ → Call
+abbrev pub start : ℕ → ℕ → ℕ → ℕ → Call
 start l k x y = startUpdate l k x y
 
-abbrev step : ℕ → Call
+abbrev pub step : ℕ → Call
 step l = stepUpdate l
 
-abbrev sweep : ℕ → ℕ → ℕ → ℕ → ℕ → Call
+abbrev pub sweep : ℕ → ℕ → ℕ → ℕ → ℕ → Call
 sweep l x0 y0 x1 y1 = startQuery l (record { x0 = x0; y0 = y0; x1 = x1; y1 = y1 })
 
 -- the numbers that the calls give, one after the other
-numbersOf : List Answer → List ℕ
+unfoldable pub numbersOf : List Answer → List ℕ
 numbersOf [] = []
 numbersOf (a ∷ l) = a .number ∷ numbersOf l
 
@@ -68,11 +68,11 @@ abbrev numbers : Grid → List Call → List ℕ
 numbers g cs = numbersOf (answers cs g)
 
 -- n steps of one lane
-steps : ℕ → ℕ → List Call
+unfoldable pub steps : ℕ → ℕ → List Call
 steps l zero = []
 steps l (suc n) = step l ∷ steps l n
 
-sweeps : ℕ → ℕ → List Call
+unfoldable pub sweeps : ℕ → ℕ → List Call
 sweeps l zero = []
 sweeps l (suc n) = stepQuery l ∷ sweeps l n
 
@@ -143,11 +143,11 @@ table =
     ∷ row (drop 39 (numbers emptyGrid ((start 0 9 100 100 ∷ steps 0 7) ++ (start 0 9 1100 100 ∷ steps 0 8) ++ (sweep 0 0 0 3071 100 ∷ sweeps 0 6) ++ (start 0 9 2100 100 ∷ steps 0 14) ++ sweeps 0 3))) (0 ∷ 0 ∷ 22 ∷ [])
     ∷ []
 
-pub gives : List Row → List (List ℕ)
+unfoldable pub gives : List Row → List (List ℕ)
 gives [] = []
 gives (r ∷ t) = r .gives ∷ gives t
 
-pub says : List Row → List (List ℕ)
+unfoldable pub says : List Row → List (List ℕ)
 says [] = []
 says (r ∷ t) = r .says ∷ says t
 

@@ -10,7 +10,7 @@ use lib.ListN.{length, set, length-set, length-append}
 use lib.ListN as list
 use lib.Seq.{getD-set-same, take-suc, take-set-le, take-suc-set, length-take-le, take-at, getD-at}
 use borrow.Author.Tests.{eq-eqb, ne-eqb, lt-ltb, le-leb, eqb-true, eqb-false, ltb-true, leb-true, not-true}
-use Rattle.base.specs.Lists.{In, here, Once, more, in-or, in-left, in-right, in-append, in-one, once-last, once-front, once-few, numbersFrom, numbers-in, in-numbers, once-numbers, numbers-length, numbers-last}
+use Rattle.base.specs.Lists.{In, here, in-none, Once, more, in-or, in-left, in-right, in-append, in-one, once-last, once-front, once-few, numbersFrom, numbers-in, in-numbers, once-numbers, numbers-length, numbers-last}
 use Rattle.base.specs.Outcome.{done, need-done, need-true, done-one}
 use Rattle.base.specs.Table.{at, at-or}
 use Rattle.pool.specs.Pool.{Took, height, withHeight, members, Has, size, take, give, fresh, refill}
@@ -164,6 +164,10 @@ module _ (pool : List ℕ) (b : ℕ) (p : List ℕ) (e : give pool b ≡ done p)
 
 -- ---- when they succeed
 
+in-length : {b : ℕ} (l : List ℕ) → In b l → 0 < length l
+in-length [] i = absurd (in-none i)
+in-length (x ∷ l) i = omega arith
+
 size-height : (pool : List ℕ) → Sound pool → size pool ≡ height pool
 unfolding size members
 size-height pool S = length-take-le (height pool) pool (omega (arith, S .sized, S .low))
@@ -172,6 +176,11 @@ size-height pool S = length-take-le (height pool) pool (omega (arith, S .sized, 
 top-in : (pool : List ℕ) (h : ℕ) → height pool ≡ suc h → h < length pool → Has pool (at pool h)
 unfolding Has members
 top-in pool h e lt = rw (e, take-suc pool h 0 lt) (in-right (list.take h pool) here)
+
+-- a pool that has a bucket is not empty
+pub has-some : (pool : List ℕ) (b : ℕ) → Has pool b → 0 < size pool
+unfolding Has size
+has-some pool b i = in-length (members pool) i
 
 -- a pool that has a bucket hands one out
 pub take-some : (pool : List ℕ) → Sound pool → 0 < size pool → (t : Took) × (take pool ≡ done t)

@@ -1,5 +1,6 @@
 -- How a step of an update ends, in document 01's numbers, and the words that the stages are written in.
-use mathlib.Core.Option.{Option, none, some}
+use mathlib.Core.Bool.{Bool, true, false}
+use mathlib.Core.Option.{none, some}
 use Prim.Native.Nat.{ℕ, _+_}
 use lib.Dec.{ltb}
 use Rattle.base.specs.Outcome.{Outcome, corrupt, blocked, done, need}
@@ -7,7 +8,7 @@ use Rattle.base.specs.Step.{Said, said, Step, stepOf}
 use Rattle.index.specs.declared.search.Search.{Search}
 use Rattle.index.specs.declared.search.Search.the-variants.{Found, Empty}
 use Rattle.stage.specs.declared.Stage.{Stage}
-use Rattle.stage.specs.declared.Stage.the-variants.{Idle, TakeObject}
+use Rattle.stage.specs.declared.Stage.the-variants.{Idle, TakeObject, LockCell, LookLast, CopyLast, LowerCount, ReturnBucket, ErasePlace, ChooseCell, MakeRoom, WriteTuple, RaiseCount, SwitchPlace, DeleteOld, ReleaseObject}
 use Rattle.stage.specs.declared.Turn.{Turn}
 use Rattle.stage.specs.declared.Turn.the-variants.{Corrupt, Blocked, Advanced, Restarted, Finished}
 
@@ -49,3 +50,20 @@ attempt (done a) b k = k a
 -- Draw a stamp: the clock with one added, which must stay a stamp's magnitude.
 unfoldable pub draw : {A : Type 0} → ℕ → (ℕ → Outcome A) → Outcome A
 draw clock k = need (ltb clock 2147483647) (k (clock + 1))
+
+unfoldable pub isIdle : Stage → Bool
+isIdle Idle = true
+isIdle TakeObject = false
+isIdle (LockCell p) = false
+isIdle (LookLast p) = false
+isIdle (CopyLast p m) = false
+isIdle (LowerCount p m) = false
+isIdle (ReturnBucket p m b) = false
+isIdle (ErasePlace p m) = false
+isIdle ChooseCell = false
+isIdle MakeRoom = false
+isIdle WriteTuple = false
+isIdle (RaiseCount p) = false
+isIdle (SwitchPlace p) = false
+isIdle (DeleteOld p) = false
+isIdle ReleaseObject = false

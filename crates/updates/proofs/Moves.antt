@@ -18,7 +18,7 @@ use Rattle.choose.specs.Choose.{Placing, stage8, rewrite, lockNew, choose}
 use Rattle.write.specs.Write.{stage9, stage10}
 use Rattle.commit.specs.Commit.{stage11, stage12, stage13}
 use Rattle.tables.specs.Tables.{Tables}
-use Rattle.calls.proofs.Moves.{Moves, stuck, held, moved, in-need, in-pick, in-then, in-lift}
+use Rattle.calls.proofs.Moves.{Moves, stuck, moved, in-need, in-pick, in-then, in-lift}
 use Rattle.turns.specs.Stages.{stageOn}
 
 -- moved on, went back, finished

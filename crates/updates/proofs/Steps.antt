@@ -12,7 +12,7 @@ use Rattle.layout.specs.Place.{onGrid}
 use Rattle.index.specs.Search.{search as sought}
 use Rattle.index.specs.Index.{Index, insert}
 use Rattle.base.specs.Step.{Said, turnTells, turnLeaves, turned}
-use Rattle.stage.specs.Turn.{turnSays}
+use Rattle.stage.specs.Turn.{turnSays, isIdle}
 use Rattle.stage.specs.declared.Stage.{Stage}
 use Rattle.stage.specs.declared.Stage.the-variants.{TakeObject}
 use Rattle.stage.specs.declared.Turn.{Turn}
@@ -21,7 +21,7 @@ use Rattle.tables.specs.Tables.{Tables, withIndex, rightLengths}
 use Rattle.turns.specs.Stages.{stageOn}
 use Rattle.calls.specs.Call.{after, afterOf, unless, stepped, nextLanes}
 use Rattle.calls.proofs.Tests.{told-stepped}
-use Rattle.updates.specs.Update.{putStage, isIdle, idleUpdater, updateStep, updateStart, hasRoom, started}
+use Rattle.updates.specs.Update.{putStage, idleUpdater, updateStep, updateStart, hasRoom, started}
 
 module _ (t : Tables) (us : List Updater) (l : ℕ) where
   -- a wrong length

@@ -1,12 +1,10 @@
 -- note_tuple does what `note` says: one law of Noting.antt for each return, by what the look-up answered.
-use mathlib.Core.Path.{_≡_, ap, sym, _∙_}
 use native.Mathlib.Omega.{arith}
 use Rattle.base.specs.Outcome.{tells, leaves}
 use denote.Ref.{now}
 use Rattle.hits.specs.Hits.{Hits, hitsOf, lookFrom}
 use Rattle.hits.proofs.Look.{look-within}
 use Rattle.hits.proofs.Noting.{listed-none, listed-at, note-wide, note-full, note-added, note-kept, note-replaced}
-use Rattle.hits.specs.Hits.{lookFrom}
 use borrow.Author.Needs.{needs}
 use Rattle.hits.proofs.note_tuple.Statement.{statement}
 use Rattle.hits.proofs.note_tuple.Tie as tie

@@ -6,10 +6,6 @@ use Rattle.index.specs.Index.{Index}
 use Rattle.tables.specs.Tables.{Tables}
 use Rattle.queries.specs.Scans.{scanTables}
 use Rattle.queries.proofs.Steps.{scan-enter, scan-leave, scan-read, scan-idle, scan-over}
-use borrow.Author.Tests.{eq-eqb, ne-eqb}
-use Rattle.base.specs.Outcome.{pick}
-use Rattle.base.specs.Step.{turnTells, turnLeaves, lifted}
-use Rattle.queries.specs.Scans.{scanOn}
 use borrow.Author.Needs.{needs}
 use Rattle.queries.proofs.scanning.scan_step.Statement.{statement}
 use Rattle.queries.proofs.scanning.scan_step.Tie as tie

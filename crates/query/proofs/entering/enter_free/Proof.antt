@@ -1,5 +1,5 @@
 -- enter_free does what `enterFree` says: by the tests that led to each return, then as after_cell or add_reader answers.
-use mathlib.Core.Path.{_≡_, refl, ap, sym, _∙_}
+use mathlib.Core.Path.{ap, _∙_}
 use borrow.Author.Tests.{lt-ltb, le-ltb, eq-eqb, ne-eqb}
 use Rattle.base.specs.Outcome.{need, pick, andThen}
 use Rattle.base.specs.Step.{turnTells, turnLeaves, said-corrupt, said-done}

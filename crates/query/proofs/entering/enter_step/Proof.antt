@@ -1,5 +1,5 @@
 -- enter_step does what `enterStep` says: by the test of the cell, as look_lock answers, then as enter_free does.
-use mathlib.Core.Path.{_≡_, refl, ap, sym, _∙_}
+use mathlib.Core.Path.{ap, sym, _∙_}
 use borrow.Author.Tests.{not-true, not-false}
 use Rattle.base.specs.Answer.{attemptSays}
 use Rattle.base.specs.Outcome.{need, andThen, nothing, told-corrupt, told-blocked, told-done}

@@ -1,5 +1,5 @@
 -- leave_last does what `leaveLast` says: as after_cell and take_reader answer.
-use mathlib.Core.Path.{_≡_, refl, ap, sym, _∙_}
+use mathlib.Core.Path.{ap, _∙_}
 use Rattle.base.specs.Answer.{changed-corrupt, changed-done}
 use Rattle.base.specs.Outcome.{andThen}
 use Rattle.base.specs.Step.{turnTells, turnLeaves, said-corrupt, said-done}

@@ -1,5 +1,4 @@
 -- leave_step does what `leaveStep` says: by the tests that led to each return, then as leave_last or leave_for answers.
-use mathlib.Core.Path.{_≡_, refl, ap, sym, _∙_}
 use borrow.Author.Tests.{lt-ltb, le-ltb, eq-eqb, ne-eqb}
 use Rattle.base.specs.Outcome.{need, pick, andThen}
 use Rattle.base.specs.Step.{turnTells, turnLeaves}

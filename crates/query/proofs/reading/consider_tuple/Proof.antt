@@ -1,5 +1,5 @@
 -- consider_tuple does what `consider` says: by the tests that led to each return, then as note_tuple does.
-use mathlib.Core.Path.{_≡_, sym, _∙_}
+use mathlib.Core.Path.{sym, _∙_}
 use borrow.Author.Tests.{not-true, not-false}
 use Rattle.base.specs.Outcome.{need, pick, tells, leaves}
 use Rattle.query.specs.Scan.{consider}

@@ -1,5 +1,5 @@
 -- read_step does what `readStep` says: by the tests that led to each return, then as read_tuple and consider_tuple answer.
-use mathlib.Core.Path.{_≡_, refl, ap, sym, _∙_}
+use mathlib.Core.Path.{ap, _∙_}
 use borrow.Author.Tests.{lt-ltb, le-ltb, eq-eqb, ne-eqb}
 use Rattle.base.specs.Outcome.{need, andThen}
 use Rattle.base.specs.Step.{turnTells, turnLeaves}

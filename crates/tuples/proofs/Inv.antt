@@ -1,0 +1,391 @@
+-- The invariant of layer B: ghost positions keyed by oid, records over the tables they read.
+use mathlib.Core.Path.{_≡_, _∙_}
+use mathlib.Core.Logic.{_≢_, _⊎_}
+use mathlib.Core.Bool.{Bool, true, false}
+use mathlib.Core.Option.{Option, none, some}
+use mathlib.Core.List.{List}
+use Prim.Native.Nat.{ℕ, suc, _+_, _-_, _≤_, _<_}
+use lib.Dec.{T, eqb}
+use lib.IntN.{natAbs}
+use Rattle.machine.specs.Store.{StoreOps, Store}
+use Rattle.machine.specs.Marks.{stands, stood}
+use Rattle.machine.specs.Sums.{sum, bit}
+use Rattle.layout.specs.declared.place.Place.{Place}
+use Rattle.layout.specs.Place.{cellOf}
+use Rattle.slots.specs.Tuple.{Tuple}
+use Rattle.stage.specs.declared.Stage.{Stage}
+use Rattle.stage.specs.declared.Stage.the-variants.{Idle, TakeObject, LockCell, LookLast, CopyLast, LowerCount, ReturnBucket, ErasePlace, ChooseCell, MakeRoom, WriteTuple, RaiseCount, SwitchPlace, DeleteOld, ReleaseObject}
+use Rattle.stage.specs.declared.Updater.{Updater}
+use Rattle.machine.specs.Machine.{Entry, Scanner, St}
+
+-- ---- layer A's ghost
+pub data Owner : Type 0 where
+  inPool : Owner
+  inChain : ℕ → ℕ → Owner
+  unlinked : ℕ → ℕ → ℕ → Owner
+
+pub record Links (own : ℕ → Owner) (height : ℕ → ℕ) (first next : ℕ → ℕ) : Type 0 where
+  pub empty : (c : ℕ) → height c ≡ 0 → first c ≡ 512
+  pub top : (c h : ℕ) → height c ≡ suc h → own (first c) ≡ inChain c h
+  pub up : (b c h : ℕ) → own b ≡ inChain c (suc h) → own (next b) ≡ inChain c h
+  pub bottom : (b c : ℕ) → own b ≡ inChain c 0 → next b ≡ 512
+  pub one : (b b′ c h : ℕ) → own b ≡ inChain c h → own b′ ≡ inChain c h → b ≡ b′
+  pub within : (b c h : ℕ) → own b ≡ inChain c h → (c < 256) × (h < height c) × (b < 512)
+
+pub record Full (own : ℕ → Owner) (height : ℕ → ℕ) (count : ℕ → ℕ) : Type 0 where
+  pub below : (b c h : ℕ) → own b ≡ inChain c h → suc h < height c → count b ≡ 4
+  pub most : (b c h : ℕ) → own b ≡ inChain c h → count b ≤ 4
+
+pub record Stored {O : StoreOps} (S : Store O) (own : ℕ → Owner) (pool : List ℕ) : Type 0 where
+  pub has : (b : ℕ) → S .Has pool b → (b < 512) × (own b ≡ inPool)
+  pub all : (b : ℕ) → b < 512 → own b ≡ inPool → S .Has pool b
+  pub fine : S .Fine pool
+
+-- ---- layer B's ghost: for each oid the places of its tuples. `fresh`: the previous tuple is not flagged yet (stage 13)
+pub record Pos : Type 0 where
+  pub cur : Option Place
+  pub prev : Option Place
+  pub new : Option Place
+  pub dup : Option Place
+  pub fresh : Bool
+
+pub data Kind : Type 0 where
+  kCur : Kind
+  kPrev : Kind
+  kNew : Kind
+  kDup : Kind
+
+unfoldable pub sel : Kind → Pos → Option Place
+sel kCur g = g .cur
+sel kPrev g = g .prev
+sel kNew g = g .new
+sel kDup g = g .dup
+
+abbrev pub mk : Option Place → Option Place → Option Place → Option Place → Bool → Pos
+mk c p n d f = record { cur = c; prev = p; new = n; dup = d; fresh = f }
+
+abbrev pub plain : Entry → Pos
+plain e = mk (e .cur) (e .prev) none none false
+
+abbrev pub pl : ℕ → ℕ → ℕ → Place
+pl c b i = record { cell = c; bucket = b; slot = i }
+
+pub record Lives (own : ℕ → Owner) (count : ℕ → ℕ) (p : Place) : Type 0 where
+  pub h : ℕ
+  pub owned : own (p .bucket) ≡ inChain (p .cell) h
+  pub low : p .slot < count (p .bucket)
+
+-- every live slot is exactly one place of its own tuple's object
+pub record Slots (own : ℕ → Owner) (count : ℕ → ℕ) (tup : ℕ → ℕ → Tuple) (known : ℕ → Bool) (gh : ℕ → Pos) : Type 0 where
+  pub back : (κ : Kind) (k : ℕ) (p : Place) → sel κ (gh k) ≡ some p → Lives own count p × (tup (p .bucket) (p .slot) .oid ≡ k) × T (known k)
+  pub forth : (b c h i : ℕ) → own b ≡ inChain c h → i < count b → (κ : Kind) × (sel κ (gh (tup b i .oid)) ≡ some (pl c b i))
+  pub apart : (κ κ′ : Kind) (k : ℕ) (p : Place) → sel κ (gh k) ≡ some p → sel κ′ (gh k) ≡ some p → κ ≡ κ′
+
+-- of one object: signs of its times, and its two places in different cells
+pub record Fit (tup : ℕ → ℕ → Tuple) (g : Pos) : Type 0 where
+  pub curs : (p : Place) → g .cur ≡ some p → T (stands (tup (p .bucket) (p .slot) .time))
+  pub news : (p : Place) → g .new ≡ some p → T (stands (tup (p .bucket) (p .slot) .time))
+  pub prevs : (p : Place) → g .prev ≡ some p → g .fresh ≡ false → T (stood (tup (p .bucket) (p .slot) .time))
+  pub unflagged : (p : Place) → g .prev ≡ some p → g .fresh ≡ true → T (stands (tup (p .bucket) (p .slot) .time))
+  pub far : (p q : Place) → g .cur ≡ some p → g .prev ≡ some q → p .cell ≢ q .cell
+
+pub record Fits (tup : ℕ → ℕ → Tuple) (gh : ℕ → Pos) : Type 0 where
+  pub fit : (k : ℕ) → Fit tup (gh k)
+
+pub record Free (lock : ℕ → ℕ) (ent : ℕ → Entry) (gh : ℕ → Pos) : Type 0 where
+  pub free : (k : ℕ) → lock k ≡ 0 → gh k ≡ plain (ent k)
+
+-- ---- what a lane says, over the values at the things it holds
+pub record Top : Type 0 where
+  pub bucket : ℕ
+  pub n : ℕ
+  pub last : ℕ
+  pub fill : Tuple
+
+abbrev pub topOf : (ℕ → ℕ) → (ℕ → ℕ) → (ℕ → ℕ → Tuple) → ℕ → Top
+topOf first count tup c = record { bucket = first c; n = count (first c); last = tup (first c) (count (first c) - 1) .oid; fill = tup (first c) (count (first c)) }
+
+-- the moved object's places; `d`: its second copy
+pub data Moved (p : Place) (e : Entry) (g : Pos) (d : Option Place) : Type 0 where
+  movedCur : g ≡ mk (some p) (e .prev) none d false → Moved p e g d
+  movedPrev : g ≡ mk (e .cur) (some p) none d false → Moved p e g d
+
+pub data Lowering (k : ℕ) (p : Place) (m : ℕ) (e : Entry) (g : Pos) (em : Entry) (gm : Pos) (t : Top) : Type 0 where
+  same : m ≡ k → g ≡ mk (e .cur) none none (some (pl (p .cell) (t .bucket) (t .n - 1))) false → Lowering k p m e g em gm t
+  other : m ≢ k → g ≡ mk (e .cur) none none none false → Moved p em gm (some (pl (p .cell) (t .bucket) (t .n - 1))) → Lowering k p m e g em gm t
+
+pub data Erasing (k : ℕ) (p : Place) (m : ℕ) (e : Entry) (g : Pos) (em : Entry) (gm : Pos) : Type 0 where
+  same : m ≡ k → g ≡ mk (e .cur) none none none false → Erasing k p m e g em gm
+  other : m ≢ k → g ≡ mk (e .cur) none none none false → Moved p em gm none → Erasing k p m e g em gm
+
+pub record Outside (e : Entry) (c : ℕ) : Type 0 where
+  pub noPrev : e .prev ≡ none
+  pub out : (q : Place) → e .cur ≡ some q → q .cell ≢ c
+
+unfoldable pub ownHeld : Stage → Bool
+ownHeld Idle = false
+ownHeld TakeObject = false
+ownHeld (LockCell p) = true
+ownHeld (LookLast p) = true
+ownHeld (CopyLast p m) = true
+ownHeld (LowerCount p m) = true
+ownHeld (ReturnBucket p m b) = true
+ownHeld (ErasePlace p m) = true
+ownHeld ChooseCell = true
+ownHeld MakeRoom = true
+ownHeld WriteTuple = true
+ownHeld (RaiseCount p) = true
+ownHeld (SwitchPlace p) = true
+ownHeld (DeleteOld p) = true
+ownHeld ReleaseObject = true
+
+unfoldable pub movHeld : Stage → Bool
+movHeld Idle = false
+movHeld TakeObject = false
+movHeld (LockCell p) = false
+movHeld (LookLast p) = false
+movHeld (CopyLast p m) = true
+movHeld (LowerCount p m) = true
+movHeld (ReturnBucket p m b) = true
+movHeld (ErasePlace p m) = true
+movHeld ChooseCell = false
+movHeld MakeRoom = false
+movHeld WriteTuple = false
+movHeld (RaiseCount p) = false
+movHeld (SwitchPlace p) = false
+movHeld (DeleteOld p) = false
+movHeld ReleaseObject = false
+
+unfoldable pub celHeld : Stage → Bool
+celHeld Idle = false
+celHeld TakeObject = false
+celHeld (LockCell p) = false
+celHeld (LookLast p) = true
+celHeld (CopyLast p m) = true
+celHeld (LowerCount p m) = true
+celHeld (ReturnBucket p m b) = true
+celHeld (ErasePlace p m) = true
+celHeld ChooseCell = false
+celHeld MakeRoom = true
+celHeld WriteTuple = true
+celHeld (RaiseCount p) = true
+celHeld (SwitchPlace p) = true
+celHeld (DeleteOld p) = false
+celHeld ReleaseObject = false
+
+abbrev pub goal : Updater → ℕ
+goal a = cellOf (a .x) (a .y)
+
+unfoldable pub mv : ℕ → Stage → ℕ
+mv k Idle = k
+mv k TakeObject = k
+mv k (LockCell p) = k
+mv k (LookLast p) = k
+mv k (CopyLast p m) = m
+mv k (LowerCount p m) = m
+mv k (ReturnBucket p m b) = m
+mv k (ErasePlace p m) = m
+mv k ChooseCell = k
+mv k MakeRoom = k
+mv k WriteTuple = k
+mv k (RaiseCount p) = k
+mv k (SwitchPlace p) = k
+mv k (DeleteOld p) = k
+mv k ReleaseObject = k
+
+unfoldable pub cl : ℕ → Stage → ℕ
+cl c Idle = c
+cl c TakeObject = c
+cl c (LockCell p) = c
+cl c (LookLast p) = p .cell
+cl c (CopyLast p m) = p .cell
+cl c (LowerCount p m) = p .cell
+cl c (ReturnBucket p m b) = p .cell
+cl c (ErasePlace p m) = p .cell
+cl c ChooseCell = c
+cl c MakeRoom = c
+cl c WriteTuple = c
+cl c (RaiseCount p) = c
+cl c (SwitchPlace p) = c
+cl c (DeleteOld p) = c
+cl c ReleaseObject = c
+
+unfoldable pub bk : Stage → ℕ
+bk Idle = 0
+bk TakeObject = 0
+bk (LockCell p) = 0
+bk (LookLast p) = 0
+bk (CopyLast p m) = 0
+bk (LowerCount p m) = 0
+bk (ReturnBucket p m b) = b
+bk (ErasePlace p m) = 0
+bk ChooseCell = 0
+bk MakeRoom = 0
+bk WriteTuple = 0
+bk (RaiseCount p) = 0
+bk (SwitchPlace p) = 0
+bk (DeleteOld p) = 0
+bk ReleaseObject = 0
+
+unfoldable pub Ok : ℕ → ℕ → ℕ → Stage → Entry → Pos → Entry → Pos → Top → Owner → Type 0
+Ok l k c Idle e g em gm t o = Unit {0}
+Ok l k c TakeObject e g em gm t o = Unit {0}
+Ok l k c (LockCell p) e g em gm t o = (e .prev ≡ some p) × (g ≡ plain e)
+Ok l k c (LookLast p) e g em gm t o = (e .prev ≡ some p) × (g ≡ plain e)
+Ok l k c (CopyLast p m) e g em gm t o = (e .prev ≡ some p) × (g ≡ plain e) × (gm ≡ plain em) × (t .last ≡ m)
+Ok l k c (LowerCount p m) e g em gm t o = Lowering k p m e g em gm t
+Ok l k c (ReturnBucket p m b) e g em gm t o = Erasing k p m e g em gm × ((h : ℕ) × (o ≡ unlinked l (p .cell) h))
+Ok l k c (ErasePlace p m) e g em gm t o = Erasing k p m e g em gm
+Ok l k c ChooseCell e g em gm t o = (g ≡ plain e) × (e .prev ≡ none)
+Ok l k c MakeRoom e g em gm t o = (g ≡ plain e) × Outside e (c)
+Ok l k c WriteTuple e g em gm t o = (g ≡ plain e) × Outside e (c) × (t .bucket < 512) × (t .n < 4)
+Ok l k c (RaiseCount p) e g em gm t o = (g ≡ plain e) × Outside e (c) × (t .bucket < 512) × (t .n < 4) × (p ≡ pl (c) (t .bucket) (t .n)) × (t .fill .oid ≡ k) × T (stands (t .fill .time)) × (cellOf (t .fill .x) (t .fill .y) ≡ c)
+Ok l k c (SwitchPlace p) e g em gm t o = (g ≡ mk (e .cur) none (some p) none false) × Outside e (c) × (p .cell ≡ c)
+Ok l k c (DeleteOld p) e g em gm t o = (e .prev ≡ some p) × (g ≡ mk (e .cur) (e .prev) none none true)
+Ok l k c ReleaseObject e g em gm t o = g ≡ plain e
+
+-- what a lane says is kept where the values at the things it holds are kept
+pub frame : (l k c : ℕ) (s : Stage) {e e′ em em′ : Entry} {g g′ gm gm′ : Pos} {t t′ : Top} {o o′ : Owner}
+    → (T (ownHeld s) → (e ≡ e′) × (g ≡ g′)) → (T (movHeld s) → (em ≡ em′) × (gm ≡ gm′)) → (T (celHeld s) → t ≡ t′) → ((c h : ℕ) → o ≡ unlinked l c h → o′ ≡ o)
+    → Ok l k c s e g em gm t o → Ok l k c s e′ g′ em′ gm′ t′ o′
+unfolding Ok ownHeld movHeld celHeld
+frame l k c Idle E M C O w = tt
+frame l k c TakeObject E M C O w = tt
+frame l k c (LockCell p) E M C O w = rw (← (E tt .0), ← (E tt .1)) w
+frame l k c (LookLast p) E M C O w = rw (← (E tt .0), ← (E tt .1)) w
+frame l k c (CopyLast p m) E M C O w = rw (← (E tt .0), ← (E tt .1), ← (M tt .0), ← (M tt .1), ← (C tt)) w
+frame l k c (LowerCount p m) E M C O w = rw (← (E tt .0), ← (E tt .1), ← (M tt .0), ← (M tt .1), ← (C tt)) w
+frame l k c (ReturnBucket p m b) E M C O w = (rw (← (E tt .0), ← (E tt .1), ← (M tt .0), ← (M tt .1)) (w .0), (w .1 .0, O (p .cell) (w .1 .0) (w .1 .1) ∙ w .1 .1))
+frame l k c (ErasePlace p m) E M C O w = rw (← (E tt .0), ← (E tt .1), ← (M tt .0), ← (M tt .1)) w
+frame l k c ChooseCell E M C O w = rw (← (E tt .0), ← (E tt .1)) w
+frame l k c MakeRoom E M C O w = rw (← (E tt .0), ← (E tt .1)) w
+frame l k c WriteTuple E M C O w = rw (← (E tt .0), ← (E tt .1), ← (C tt)) w
+frame l k c (RaiseCount p) E M C O w = rw (← (E tt .0), ← (E tt .1), ← (C tt)) w
+frame l k c (SwitchPlace p) E M C O w = rw (← (E tt .0), ← (E tt .1)) w
+frame l k c (DeleteOld p) E M C O w = rw (← (E tt .0), ← (E tt .1)) w
+frame l k c ReleaseObject E M C O w = rw (← (E tt .0), ← (E tt .1)) w
+
+pub record Ghost : Type 0 where
+  pub own : ℕ → Owner
+  pub height : ℕ → ℕ
+  pub gh : ℕ → Pos
+
+-- lane l, at the tables
+abbrev pub OkAt : ℕ → Ghost → St → Type 0
+OkAt l g d =
+    let a = d .lanes l in
+    Ok l (a .oid) (goal a) (a .stage) (d .ent (a .oid)) (g .gh (a .oid)) (d .ent (mv (a .oid) (a .stage))) (g .gh (mv (a .oid) (a .stage))) (topOf (d .first) (d .count) (d .tup) (cl (goal a) (a .stage))) (g .own (bk (a .stage)))
+
+pub record Lanes (known : ℕ → Bool) (lanes : ℕ → Updater) : Type 0 where
+  pub fine : (l : ℕ) → l < 8 → lanes l .stage ≢ Idle → T (known (lanes l .oid)) × (lanes l .x < 16384) × (lanes l .y < 16384)
+
+pub record CellLocks (cellLock : ℕ → ℕ) (lanes : ℕ → Updater) : Type 0 where
+  pub mine : (l : ℕ) → l < 8 → T (celHeld (lanes l .stage)) → cellLock (cl (goal (lanes l)) (lanes l .stage)) ≡ suc l
+  pub his : (c l : ℕ) → cellLock c ≡ suc l → (l < 8) × T (celHeld (lanes l .stage)) × (cl (goal (lanes l)) (lanes l .stage) ≡ c) × (c < 256)
+
+pub record ObjLocks (lock : ℕ → ℕ) (lanes : ℕ → Updater) : Type 0 where
+  pub own : (l : ℕ) → l < 8 → T (ownHeld (lanes l .stage)) → lock (lanes l .oid) ≡ suc l
+  pub mov : (l : ℕ) → l < 8 → T (movHeld (lanes l .stage)) → lock (mv (lanes l .oid) (lanes l .stage)) ≡ suc l
+  pub his : (k l : ℕ) → lock k ≡ suc l → (l < 8) × ((T (ownHeld (lanes l .stage)) × (lanes l .oid ≡ k)) ⊎ (T (movHeld (lanes l .stage)) × (mv (lanes l .oid) (lanes l .stage) ≡ k)))
+
+unfoldable pub filling : Stage → Bool
+filling Idle = false
+filling TakeObject = false
+filling (LockCell p) = false
+filling (LookLast p) = false
+filling (CopyLast p m) = false
+filling (LowerCount p m) = false
+filling (ReturnBucket p m b) = false
+filling (ErasePlace p m) = false
+filling ChooseCell = false
+filling MakeRoom = false
+filling WriteTuple = true
+filling (RaiseCount p) = true
+filling (SwitchPlace p) = false
+filling (DeleteOld p) = false
+filling ReleaseObject = false
+
+unfoldable pub draws : Stage → ℕ
+draws Idle = 0
+draws TakeObject = 2
+draws (LockCell p) = 2
+draws (LookLast p) = 2
+draws (CopyLast p m) = 2
+draws (LowerCount p m) = 2
+draws (ReturnBucket p m b) = 2
+draws (ErasePlace p m) = 2
+draws ChooseCell = 2
+draws MakeRoom = 2
+draws WriteTuple = 2
+draws (RaiseCount p) = 1
+draws (SwitchPlace p) = 1
+draws (DeleteOld p) = 1
+draws ReleaseObject = 0
+
+-- a bucket of a chain has a tuple, unless its cell's holder is about to write one
+pub record Filled (own : ℕ → Owner) (count cellLock : ℕ → ℕ) (lanes : ℕ → Updater) : Type 0 where
+  pub filled : (b c h : ℕ) → own b ≡ inChain c h → (0 < count b) ⊎ ((l : ℕ) × (l < 8) × T (filling (lanes l .stage)) × (cl (goal (lanes l)) (lanes l .stage) ≡ c))
+
+pub record Back (own : ℕ → Owner) (lanes : ℕ → Updater) : Type 0 where
+  pub lane : (b l c h : ℕ) → own b ≡ unlinked l c h → (b < 512) × (l < 8) × ((p : Place) × (m : ℕ) × (lanes l .stage ≡ ReturnBucket p m b))
+
+-- an unlinked bucket still leads to what was below it
+pub record Loose (own : ℕ → Owner) (next count : ℕ → ℕ) : Type 0 where
+  pub up : (b l c h : ℕ) → own b ≡ unlinked l c (suc h) → own (next b) ≡ inChain c h
+  pub bottom : (b l c : ℕ) → own b ≡ unlinked l c 0 → next b ≡ 512
+  pub full : (b l c h : ℕ) → own b ≡ unlinked l c (suc h) → count (next b) ≡ 4
+
+unfoldable pub stands-in : Option ℕ → ℕ → Bool
+stands-in none b = false
+stands-in (some b′) b = eqb b′ b
+
+-- a query stands in a bucket of its cell, or in one just unlinked; the slots it has still to read have been written
+pub record Standing (own : ℕ → Owner) (tup : ℕ → ℕ → Tuple) (b c left : ℕ) : Type 0 where
+  pub h : ℕ
+  pub owned : (own b ≡ inChain c h) ⊎ ((l : ℕ) × (own b ≡ unlinked l c h))
+  pub few : left ≤ 4
+  pub written : (i : ℕ) → i < left → 0 < natAbs (tup b i .time)
+
+pub record Reading (own : ℕ → Owner) (tup : ℕ → ℕ → Tuple) (readers : ℕ → ℕ) (queries : ℕ → Scanner) : Type 0 where
+  pub exact : (b : ℕ) → readers b ≡ sum 4 (λ q. bit (stands-in (queries q .bucket) b))
+  pub standing : (q b : ℕ) → q < 4 → queries q .bucket ≡ some b → Standing own tup b (queries q .cell) (queries q .left)
+
+-- every slot, live or not
+pub record Young (tup : ℕ → ℕ → Tuple) (known : ℕ → Bool) (clock : ℕ) : Type 0 where
+  pub young : (b i : ℕ) → natAbs (tup b i .time) ≤ clock
+  pub heard : (b i : ℕ) → 0 < natAbs (tup b i .time) → T (known (tup b i .oid))
+
+-- every live slot's tuple lies in its cell, and has a time
+pub record Placed (own : ℕ → Owner) (count : ℕ → ℕ) (tup : ℕ → ℕ → Tuple) : Type 0 where
+  pub inside : (b c h i : ℕ) → own b ≡ inChain c h → i < count b → (cellOf (tup b i .x) (tup b i .y) ≡ c) × (0 < natAbs (tup b i .time))
+
+-- the clock has room for every draw to come
+pub record Ticks (clock : ℕ) (lanes : ℕ → Updater) : Type 0 where
+  pub left : clock + sum 8 (λ l. draws (lanes l .stage)) ≤ 2147483616
+
+-- the known objects, numbered
+pub record Ranked (known : ℕ → Bool) (size : ℕ) : Type 0 where
+  pub rank : ℕ → ℕ
+  pub low : (k : ℕ) → T (known k) → rank k < size
+  pub one : (j k : ℕ) → T (known j) → T (known k) → rank j ≡ rank k → j ≡ k
+  pub most : size ≤ 256
+
+pub record Inv {O : StoreOps} (S : Store O) (g : Ghost) (d : St) : Type 0 where
+  pub links : Links (g .own) (g .height) (d .first) (d .next)
+  pub full : Full (g .own) (g .height) (d .count)
+  pub stored : Stored S (g .own) (d .pool)
+  pub slots : Slots (g .own) (d .count) (d .tup) (d .known) (g .gh)
+  pub fits : Fits (d .tup) (g .gh)
+  pub free : Free (d .lock) (d .ent) (g .gh)
+  pub ok : (l : ℕ) → l < 8 → OkAt l g d
+  pub ranks : Ranked (d .known) (d .size)
+  pub ticks : Ticks (d .clock) (d .lanes)
+  pub young : Young (d .tup) (d .known) (d .clock)
+  pub loose : Loose (g .own) (d .next) (d .count)
+  pub reading : Reading (g .own) (d .tup) (d .readers) (d .queries)
+  pub placed : Placed (g .own) (d .count) (d .tup)
+  pub lanes : Lanes (d .known) (d .lanes)
+  pub cells : CellLocks (d .cellLock) (d .lanes)
+  pub objs : ObjLocks (d .lock) (d .lanes)
+  pub filled : Filled (g .own) (d .count) (d .cellLock) (d .lanes)
+  pub back : Back (g .own) (d .lanes)
