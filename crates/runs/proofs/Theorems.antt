@@ -3,10 +3,14 @@
 -- The same holds from any grid of which `Good` holds (`run-good` in Runs.antt).
 use mathlib.Core.Path.{_≡_}
 use mathlib.Core.Logic.{_≢_}
+use mathlib.Core.Bool.{true}
 use mathlib.Core.List.{List}
 use Prim.Native.Nat.{ℕ, _+_, _<_}
 use Rattle.pool.specs.Pool.{size}
 use Rattle.query.specs.declared.Scan.the-variants.{Idle}
+use Rattle.tables.specs.Tables.{Tables, rightLengths}
+use Rattle.calls.specs.Call.{after, afterOf, unless}
+use Rattle.grid.specs.Grid.{Lanes, lanesOf, resetGrid}
 use Rattle.grid.specs.Run.{Call, call, run, emptyGrid}
 use Rattle.runs.specs.Counting.{chained, awaiting}
 use Rattle.runs.specs.Quiet.{ClockFits, NeverDry, LocksOwned, ObjectsOwned, ChainsEnd, Quiet, NoLocks, SameTuples}
@@ -15,6 +19,11 @@ use Rattle.runs.proofs.Counted.{buckets-counted}
 use Rattle.runs.proofs.Quiet.{clock-fits, never-dry, locks-owned, objects-owned, chains-end, no-locks, same-tuples}
 use Rattle.runs.proofs.Runs.{call-good, every}
 use Rattle.runs.proofs.Standing.{list-fits, readers-fit}
+
+-- THE EMPTY GRID IS WHAT `reset` MAKES, whatever the tables and the lanes held, if the lengths are right.
+pub reset-makes : (t : Tables) (ls : Lanes) → rightLengths t ≡ true → after t ls (resetGrid t) ≡ afterOf 0 (emptyGrid .tables) (lanesOf (emptyGrid .updaters) (emptyGrid .queries))
+unfolding resetGrid unless after emptyGrid
+reset-makes t ls right = rw right
 
 module _ (cs : List Call) where
   -- NUMBER 12 NEVER COMES, whatever is called next.
