@@ -50,6 +50,19 @@ report k x y n = start 0 k x y ∷ steps 0 n
 counts : List Call → List ℕ
 counts cs = let g = run cs emptyGrid in size (g .tables .pool) ∷ chained (g .tables) ∷ awaiting (g .updaters) ∷ []
 
+-- how many tuples each of some buckets has
+each : List ℕ → List ℕ → List ℕ
+each count [] = []
+each count (b ∷ l) = at count b ∷ each count l
+
+countsIn : List ℕ → Option (List ℕ) → List ℕ
+countsIn count none = []
+countsIn count (some l) = each count l
+
+-- the tuples of the buckets of a cell, from the first bucket on
+along : List Call → ℕ → List ℕ
+along cs c = let t = run cs emptyGrid .tables in countsIn (t .count) (chainOf (t .first) (t .next) c)
+
 -- readers of a bucket, and the queries that stand in it
 readersOf : List Call → ℕ → List ℕ
 readersOf cs b = let g = run cs emptyGrid in at (g .tables .readers) b ∷ standing (g .queries) b ∷ []
@@ -91,6 +104,7 @@ movedFormer = report 7 100 100 7 ++ report 8 200 200 7 ++ report 8 1100 100 8 ++
 pub table : List Row
 table =
     row (counts crowd) (510 ∷ 2 ∷ 0 ∷ [])
+    ∷ row (along crowd 0) (1 ∷ 4 ∷ [])
     ∷ row (drop 25 (numbersOf (answers waiting emptyGrid))) (20 ∷ [])
     ∷ row (counts waiting) (510 ∷ 1 ∷ 1 ∷ [])
     ∷ row (readersOf waiting 511) (1 ∷ 1 ∷ [])
@@ -102,5 +116,5 @@ table =
 
 -- THE PROOF: the claims hold on these runs, with the numbers that stand here
 pub claims : gives table ≡ says table
-unfolding gives says table counts readersOf places signed slotOf named numbersOf steps sweeps size members found chained awaiting returning standing sum bit inFront bucketsFrom chainOf lookup entryOf position onGrid cellOf pick hash call run answers emptyGrid emptyTables inside visited next cornersOn ordered addReader takeReader leaveFor lookFrom enlist note counted afterCell enterFree enterStep leaveLast leaveStep comparable consider readStep scanOn queryStart queryStep idleQueries isFinished isIdleQuery seen read seenBy idleUpdaters after updateStart updateStep stepped started stageOn lift unless isIdle hasRoom rightLengths rightCells rightTuples rightIndex rightHits need await andThen atEntry attempt draw look take release search probe after# known insert enterAt empty height withHeight pool-take pool-give fresh numbersFrom encode decode readPlace putPlace erasePlace shift stampOf needSlot stampRange copy overwrite delete sign signOf firstBucket needSome last lower giveBack push makeRoom write raise hold stage1 stage2 stage3 goBack stage14 stage4 stage5 stage6 stage7 freeCell correct correctMoved rewrite lockNew choose stage8 stage9 stage10 stage11 stage12 stage13
+unfolding gives says table counts each countsIn along readersOf places signed slotOf named numbersOf steps sweeps size members found chained awaiting returning standing sum bit inFront bucketsFrom chainOf lookup entryOf position onGrid cellOf pick hash call run answers emptyGrid emptyTables inside visited next cornersOn ordered addReader takeReader leaveFor lookFrom enlist note counted afterCell enterFree enterStep leaveLast leaveStep comparable consider readStep scanOn queryStart queryStep idleQueries isFinished isIdleQuery seen read seenBy idleUpdaters after updateStart updateStep stepped started stageOn lift unless isIdle hasRoom rightLengths rightCells rightTuples rightIndex rightHits need await andThen atEntry attempt draw look take release search probe after# known insert enterAt empty height withHeight pool-take pool-give fresh numbersFrom encode decode readPlace putPlace erasePlace shift stampOf needSlot stampRange copy overwrite delete sign signOf firstBucket needSome last lower giveBack push makeRoom write raise hold stage1 stage2 stage3 goBack stage14 stage4 stage5 stage6 stage7 freeCell correct correctMoved rewrite lockNew choose stage8 stage9 stage10 stage11 stage12 stage13
 claims = refl

@@ -5,7 +5,7 @@ use mathlib.Core.Path.{_≡_, refl, sym, ap, subst, _∙_}
 use mathlib.Core.Logic.{inl, inr, ⊎-elim}
 use mathlib.Core.Bool.{false}
 use mathlib.Core.Option.{Option, none, some}
-use mathlib.Core.List.{List}
+use mathlib.Core.List.{List, _∷_}
 use Prim.Native.Nat.{ℕ, zero, suc, _<_}
 use native.Mathlib.Omega.{arith}
 use lib.Dec.{T}
@@ -19,16 +19,16 @@ use Rattle.pool.proofs.Laws.{has-some}
 use Rattle.slots.specs.Tuple.{Tuple}
 use Rattle.index.specs.Index.{Entry, lookup}
 use Rattle.cells.specs.Walk.{chainOf}
-use Rattle.cells.proofs.Chains.{Owner as Holder, inPool as pooled, inChain as chained, unlinked as loose, Links as Chained}
-use Rattle.cells.proofs.Walked.{Walked, chain-walked}
+use Rattle.cells.proofs.Chains.{Owner as Holder, inPool as pooled, inChain as chained, unlinked as loose, Links as Chained, Full as Packed}
+use Rattle.cells.proofs.Walked.{Walked, chain-walked, later-full}
 use Rattle.stage.specs.declared.Stage.{Stage}
 use Rattle.stage.specs.declared.Stage.the-variants.{Idle, TakeObject, LockCell, LookLast, CopyLast, LowerCount, ReturnBucket, ErasePlace, ChooseCell, MakeRoom, WriteTuple, RaiseCount, SwitchPlace, DeleteOld, ReleaseObject}
 use Rattle.tables.specs.Tables.{Tables}
 use Rattle.grid.specs.Run.{Grid}
-use Rattle.tuples.proofs.Inv.{Owner, inPool, inChain, unlinked, Links, Ghost, Lives, kCur, kPrev, sel, plain, celHeld, ownHeld, movHeld, cl, mv, goal}
+use Rattle.tuples.proofs.Inv.{Owner, inPool, inChain, unlinked, Links, Full, Ghost, Lives, kCur, kPrev, sel, plain, celHeld, ownHeld, movHeld, cl, mv, goal}
 use Rattle.tuples.proofs.Facts.{two-kinds}
 use Rattle.tuples.proofs.Dry.{one-free}
-use Rattle.runs.specs.Quiet.{updater, ClockFits, NeverDry, heldCell, LocksOwned, heldObjects, ObjectsOwned, ChainsEnd, Quiet, NoLocks, tupleOf, positive, negative, HasTuple, Named, SameTuples}
+use Rattle.runs.specs.Quiet.{updater, ClockFits, NeverDry, heldCell, LocksOwned, heldObjects, ObjectsOwned, ChainsEnd, LaterFull, Quiet, NoLocks, tupleOf, positive, negative, HasTuple, Named, SameTuples}
 use Rattle.runs.proofs.Bucket.{store-has}
 use Rattle.runs.proofs.Every.{Good}
 use Rattle.runs.proofs.View.{view, lockF, placesF, came, tupF, tup-at, first-at}
@@ -177,6 +177,10 @@ links own height next first long L =
       within = λ b c h o. L .within b c h (from-theirs _ c h o);
     }
 
+-- and so are the counts
+fulls : (own : ℕ → Owner) (height count : ℕ → ℕ) → Full own height count → Packed (λ b. theirs (own b)) height count
+fulls own height count F = record { below = λ b c h o. F .below b c h (from-theirs _ c h o); most = λ b c h o. F .most b c h (from-theirs _ c h o) }
+
 -- ---- places in the index
 
 -- a number read as a place
@@ -206,13 +210,26 @@ module _ (g : Grid) (G : Good g) where
   abbrev gh : Ghost
   gh = G .ghost
 
+  -- the links, in the words of the chains
+  linked : Chained (λ b. theirs (gh .own b)) (gh .height) (at (t .first)) (at (t .next))
+  unfolding view
+  linked = links (gh .own) (gh .height) (at (t .next)) (t .first) (G .shape .lengths .first) (G .inv .links)
+
   -- walking a cell
   walk : (c : ℕ) → c < 256 → (l : List ℕ) × Walked (λ b. theirs (gh .own b)) (gh .height) (t .first) (t .next) c l
-  unfolding view
-  walk c c< = chain-walked (t .first) (t .next) c (links (gh .own) (gh .height) (at (t .next)) (t .first) (G .shape .lengths .first) (G .inv .links)) c<
+  walk c c< = chain-walked (t .first) (t .next) c linked c<
 
   pub chains-end : ChainsEnd t
   chains-end c c< = let w = walk c c< in (w .0, w .1 .chain)
+
+  pub rest-full : LaterFull t
+  unfolding view
+  rest-full c b rest c< e j i =
+      let w = walk c c< in
+      let q : some (w .0) ≡ some (b ∷ rest) = sym (w .1 .chain) ∙ e in
+      let same : w .0 ≡ b ∷ rest = cc in
+      later-full (t .first) (t .count) (t .next) c linked (fulls (gh .own) (gh .height) (at (t .count)) (G .inv .full)) b rest
+      (subst (λ (l : List ℕ). Walked (λ x. theirs (gh .own x)) (gh .height) (t .first) (t .next) c l) same (w .1)) j i
 
   -- a bucket of a chain is found by walking
   pub in-walk : (b c h : ℕ) → gh .own b ≡ inChain c h → (chain : List ℕ) × (chainOf (t .first) (t .next) c ≡ some chain) × In b chain
