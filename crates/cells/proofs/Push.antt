@@ -52,7 +52,7 @@ module _ {own : ℕ → Owner} {height first next : ℕ → ℕ} (c b : ℕ) (c<
       omega (arith, t .1)
 
   -- The chain of the cell goes from the new bucket to its old first one, or to none where it had none; the others are as before.
-  links-push : Links own′ height′ (upd first c b) (upd next b (first c))
+  pub links-push : Links own′ height′ (upd first c b) (upd next b (first c))
   links-push =
       record {
         empty = λ c′ lt e. at-or c′ c
@@ -93,7 +93,7 @@ module _ {own : ℕ → Owner} {height first next : ℕ → ℕ} (c b : ℕ) (c<
       }
 
   -- The old first bucket is below the first now, and full; those further down were full already.
-  full-push : {count : ℕ → ℕ} → ((h : ℕ) → height c ≡ suc h → count (first c) ≡ 4) → Full own height count → Full own′ height′ (upd count b 0)
+  pub full-push : {count : ℕ → ℕ} → ((h : ℕ) → height c ≡ suc h → count (first c) ≡ 4) → Full own height count → Full own′ height′ (upd count b 0)
   full-push {count} was F =
       record {
         below = λ j c′ h′ o lt. at-or j b
@@ -128,7 +128,7 @@ module _ {own : ℕ → Owner} {height first next : ℕ → ℕ} (c b : ℕ) (c<
       (λ n. (n, cc (upd-other own b (inChain c (height c)) j n)))
 
   -- They lead to buckets of chains, so not to the new one.
-  loose-push : {count : ℕ → ℕ} → Loose own next count → Loose own′ (upd next b (first c)) (upd count b 0)
+  pub loose-push : {count : ℕ → ℕ} → Loose own next count → Loose own′ (upd next b (first c)) (upd count b 0)
   loose-push {count} U =
       record {
         up = λ j l c′ h′ o.

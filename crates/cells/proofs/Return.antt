@@ -27,7 +27,7 @@ module _ (own : ℕ → Owner) (b l c h : ℕ) (gone : own b ≡ unlinked l c h)
   was j l′ c′ h′ o = at-or j b (λ p. let q : inPool ≡ unlinked l′ c′ h′ = cc (upd-same own b inPool) in clash (cc)) (λ n. cc (upd-other own b inPool j n))
 
   -- No chain has the bucket.
-  links-return : {height first next : ℕ → ℕ} → Links own height first next → Links own′ height first next
+  pub links-return : {height first next : ℕ → ℕ} → Links own height first next → Links own′ height first next
   links-return L =
       record {
         empty = L .empty;
@@ -38,11 +38,11 @@ module _ (own : ℕ → Owner) (b l c h : ℕ) (gone : own b ≡ unlinked l c h)
         within = λ j c′ h′ o. L .within j c′ h′ (old j c′ h′ o);
       }
 
-  full-return : {height count : ℕ → ℕ} → Full own height count → Full own′ height count
+  pub full-return : {height count : ℕ → ℕ} → Full own height count → Full own′ height count
   full-return F = record { below = λ j c′ h′ o. F .below j c′ h′ (old j c′ h′ o); most = λ j c′ h′ o. F .most j c′ h′ (old j c′ h′ o) }
 
   -- No other unlinked bucket leads to it, as it is in no chain.
-  loose-return : {next count : ℕ → ℕ} → Loose own next count → Loose own′ next count
+  pub loose-return : {next count : ℕ → ℕ} → Loose own next count → Loose own′ next count
   loose-return U =
       record {
         up = λ j l′ c′ h′ o. kept _ c′ h′ (U .up j l′ c′ h′ (was j l′ c′ (suc h′) o));

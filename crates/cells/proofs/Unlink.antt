@@ -24,10 +24,10 @@ module _ {own : ℕ → Owner} {height first next : ℕ → ℕ} (c l h : ℕ) (
   height′ = upd height c h
 
   -- it was the top of its cell
-  own-b : own b ≡ inChain c h
+  pub own-b : own b ≡ inChain c h
   own-b = L .top c h tall
 
-  not-b : (j c′ h′ : ℕ) → own′ j ≡ inChain c′ h′ → j ≢ b
+  pub not-b : (j c′ h′ : ℕ) → own′ j ≡ inChain c′ h′ → j ≢ b
   not-b j c′ h′ o p = let q : unlinked l c h ≡ inChain c′ h′ = cc (upd-same own b (unlinked l c h)) in clash (cc)
 
   -- whatever else is in a chain stays where it is
@@ -62,7 +62,7 @@ module _ {own : ℕ → Owner} {height first next : ℕ → ℕ} (c l h : ℕ) (
       (o, differ (next b) c h′ o (λ _ p. omega arith))
 
   -- The chain of the cell goes from the bucket below on, and ends at once where there was none.
-  links-unlink : Links own′ height′ (upd first c (next b)) next
+  pub links-unlink : Links own′ height′ (upd first c (next b)) next
   links-unlink =
       record {
         empty = λ c′ lt e. at-or c′ c
@@ -85,7 +85,7 @@ module _ {own : ℕ → Owner} {height first next : ℕ → ℕ} (c l h : ℕ) (
       }
 
   -- The new first bucket may be full; the count of the unlinked one does not matter.
-  full-unlink : {count : ℕ → ℕ} (v : ℕ) → Full own height count → Full own′ height′ (upd count b v)
+  pub full-unlink : {count : ℕ → ℕ} (v : ℕ) → Full own height count → Full own′ height′ (upd count b v)
   full-unlink {count} v F =
       record {
         below = λ j c′ h′ o lt. rw (upd-other count b v j (not-b j c′ h′ o)) (F .below j c′ h′ (old j c′ h′ o) (at-or c′ c
@@ -106,7 +106,7 @@ module _ {own : ℕ → Owner} {height first next : ℕ → ℕ} (c l h : ℕ) (
       }
 
   -- It leads to a bucket that was below the first, so a full one; no other unlinked bucket leads to it, as it is not full.
-  loose-unlink : {count : ℕ → ℕ} (v : ℕ) → Full own height count → count b ≢ 4 → Loose own next count → Loose own′ next (upd count b v)
+  pub loose-unlink : {count : ℕ → ℕ} (v : ℕ) → Full own height count → count b ≢ 4 → Loose own next count → Loose own′ next (upd count b v)
   loose-unlink {count} v F few U =
       record {
         up = λ j l′ c′ h′ o. at-or j b

@@ -320,5 +320,5 @@ begin l k x y d =
 
 unfoldable pub step : StoreOps → Call → St → Option Out
 step O (start l k x y) d = begin l k x y d
-step O (walk q c) d = pick (not (ltb q 4)) (some (d, 1)) (queryStep q c (d .queries q .bucket) d)
+step O (walk q c) d = pick (not (ltb q 4)) (some (d, 1)) (pick (not (ltb c 256)) (some (d, 1)) (queryStep q c (d .queries q .bucket) d))
 step O (turn l) d = pick (not (ltb l 8)) (some (d, 1)) (doStage O l (d .lanes l) d (d .lanes l .stage))

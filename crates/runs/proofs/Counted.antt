@@ -16,20 +16,19 @@ use Rattle.pool.specs.Pool.{Has, size, members}
 use Rattle.pool.proofs.Laws.{Sound}
 use Rattle.layout.specs.declared.place.Place.{Place}
 use Rattle.cells.specs.Walk.{chainOf}
-use Rattle.cells.proofs.Chains as cells
 use Rattle.cells.proofs.Walked.{chain-walked}
 use Rattle.stage.specs.declared.Stage.{Stage}
 use Rattle.stage.specs.declared.Stage.the-variants.{Idle, TakeObject, LockCell, LookLast, CopyLast, LowerCount, ReturnBucket, ErasePlace, ChooseCell, MakeRoom, WriteTuple, RaiseCount, SwitchPlace, DeleteOld, ReleaseObject}
 use Rattle.updates.specs.Update.{idleUpdater}
 use Rattle.grid.specs.Run.{Grid}
 use Rattle.machine.specs.Sums.{sum, bit, count, bit-or, bit-yes, sum-add, sum-const, sum-swap, sum-term, count-none, count-once}
-use Rattle.tuples.proofs.Inv.{Owner, inPool, inChain, unlinked, Ok, bk}
+use Rattle.cells.proofs.Chains.{Owner, inPool, inChain, unlinked}
+use Rattle.tuples.proofs.Inv.{Ok, bk}
 use Rattle.tuples.proofs.Facts.{at-stage}
 use Rattle.runs.specs.Counting.{found, chained, returning, awaiting}
 use Rattle.runs.proofs.Bucket.{store-has, has-store, store-sound}
 use Rattle.runs.proofs.Every.{Good}
 use Rattle.runs.proofs.View.{view}
-use Rattle.runs.proofs.Quiet.{theirs, to-theirs, from-theirs, links}
 
 -- ---- sums
 
@@ -216,21 +215,17 @@ module _ (g : Grid) (G : Good g) where
       (λ b i. (S .below b i, pooled-yes (own b) (G .inv .stored .has b (has-store (g .tables .pool) b i) .1)))
       (λ b b< t. store-has (g .tables .pool) b (G .inv .stored .all b b< (pooled-is (own b) t))))
 
-  -- the links in the words of the crate cells
-  linking : cells.Links (λ b. theirs (own b)) (G .ghost .height) (at (g .tables .first)) (at (g .tables .next))
-  unfolding view
-  linking = links own (G .ghost .height) (at (g .tables .next)) (g .tables .first) (G .shape .lengths .first) (G .inv .links)
-
   -- walking the chain of a cell finds the buckets that it owns, each once
   cell-counted : (c : ℕ) → c < 256 → found (chainOf (g .tables .first) (g .tables .next) c) ≡ count 512 (λ b. linkedIn (own b) c)
+  unfolding view
   cell-counted c c< =
-      let w = chain-walked (g .tables .first) (g .tables .next) c linking c< in
+      let w = chain-walked (g .tables .first) (g .tables .next) c (G .inv .links) c< in
       let W = w .1 in
       found-some _ (w .0) (W .chain)
       ∙ sym
       (count-listed 512 (w .0) (λ b. linkedIn (own b) c) (W .once)
-      (λ b i. let t = W .theirs b i in let o = from-theirs (own b) c (t .0) (t .2) in (G .inv .links .within b c (t .0) o .2, linked-yes (own b) c (t .0) o))
-      (λ b b< t. let o = linked-is (own b) c t in W .all b (o .0) (to-theirs (own b) c (o .0) (o .1))))
+      (λ b i. let t = W .theirs b i in let o = t .2 in (G .inv .links .within b c (t .0) o .2, linked-yes (own b) c (t .0) o))
+      (λ b b< t. let o = linked-is (own b) c t in W .all b (o .0) (o .1)))
 
   -- all chains together
   pub chains-counted : chained (g .tables) ≡ count 512 (λ b. linked (own b))

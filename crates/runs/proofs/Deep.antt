@@ -9,7 +9,8 @@ use Rattle.base.specs.Table.{clash, upd, upd-other}
 use Rattle.machine.specs.Store.{StoreOps, Store}
 use Rattle.machine.specs.Machine.{St}
 use Rattle.machine.proofs.Pigeon.{by-pair}
-use Rattle.tuples.proofs.Inv.{inPool, inChain, unlinked, Ghost, Inv}
+use Rattle.cells.proofs.Chains.{inPool, inChain, unlinked}
+use Rattle.tuples.proofs.Inv.{Ghost, Inv}
 use Rattle.runs.proofs.Lists.{all-count}
 
 -- h buckets lie below b

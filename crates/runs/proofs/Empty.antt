@@ -23,6 +23,8 @@ use Rattle.queries.specs.Query.{idleQuery, idleQueries}
 use Rattle.grid.specs.Run.{emptyGrid}
 use Rattle.machine.specs.Machine.{St}
 use Rattle.machine.specs.Sums.{sum, bit}
+use Rattle.cells.proofs.Chains.{inPool, Links, Full, Loose}
+use Rattle.cells.proofs.Empty.{links-empty}
 use Rattle.tuples.proofs.Inv.{Inv, Ok, celHeld, ownHeld, movHeld, stands-in}
 use Rattle.tuples.proofs.Main.{nothing, sel-none, draws-16}
 use Rattle.runs.proofs.Bucket.{store, store-has, has-store, sound-store}
@@ -39,7 +41,9 @@ all-same (suc n) (suc i) a = all-same n i a
 -- ---- what the machine sees of it
 
 record Blank (d : St) : Type 0 where
-  pub first : (c : ℕ) → d .first c ≡ 512
+  pub links : Links (λ _. inPool) (λ _. 0) (d .first) (d .next)
+  pub full : Full (λ _. inPool) (λ _. 0) (d .count)
+  pub loose : Loose (λ _. inPool) (d .next) (d .count)
   pub readers : (b : ℕ) → d .readers b ≡ 0
   pub cells : (c : ℕ) → d .cellLock c ≡ 0
   pub times : (b i : ℕ) → natAbs (d .tup b i .time) ≡ 0
@@ -60,7 +64,9 @@ blank : Blank (view emptyGrid)
 unfolding view emptyGrid emptyTables idleUpdaters idleQueries tupF knownF lockF placesF scannerF
 blank =
     record {
-      first = λ c. all-same 256 c 512;
+      links = links-empty .links;
+      full = links-empty .full;
+      loose = links-empty .loose;
       readers = λ b. all-same 512 b 0;
       cells = λ c. all-same 256 c 0;
       times = λ b i. tuple-blank b i (ltb i 4);
@@ -82,8 +88,8 @@ blank-inv : (d : St) → Blank d → d .pool ≡ fresh → Inv store nothing d
 unfolding Ok celHeld ownHeld movHeld stands-in sum bit
 blank-inv d B pool =
     record {
-      links = record { empty = λ c e. B .first c; top = λ c h e. absurd (omega arith); up = λ b c h o. clash (cc); bottom = λ b c o. clash (cc); one = λ b b′ c h o o′. clash (cc); within = λ b c h o. clash (cc) };
-      full = record { below = λ b c h o lt. clash (cc); most = λ b c h o. clash (cc) };
+      links = B .links;
+      full = B .full;
       stored = rw pool (record { has = λ b t. (whole b .0 t, refl); all = λ b b< o. whole b .1 b<; fine = sound-store fresh fresh-sound });
       slots = record { back = λ κ k p e. absurd (sel-none κ p e); forth = λ b c h i o lt. clash (cc); apart = λ κ κ′ k p e e′. absurd (sel-none κ p e) };
       fits = record { fit = λ k. record { curs = λ p e. clash (cc); news = λ p e. clash (cc); prevs = λ p e b. clash (cc); unflagged = λ p e b. clash (cc); far = λ p q e e′. clash (cc) } };
@@ -92,7 +98,7 @@ blank-inv d B pool =
       ranks = record { rank = λ _. 0; low = λ k t. absurd (rw (B .known k) at t); one = λ j k t. absurd (rw (B .known j) at t); most = omega (arith, B .size) };
       ticks = record { left = omega (arith, B .clock, draws-16 (d .lanes)) };
       young = record { young = λ b i. omega (arith, B .times b i); heard = λ b i h. absurd (omega (arith, B .times b i)) };
-      loose = record { up = λ b l c h o. clash (cc); bottom = λ b l c o. clash (cc); full = λ b l c h o. clash (cc) };
+      loose = B .loose;
       reading = record { exact = λ b. rw (B .readers b, B .queries 0, B .queries 1, B .queries 2, B .queries 3); standing = λ q b q< e. let n = B .queries q in clash (cc) };
       placed = record { inside = λ b c h i o lt. clash (cc) };
       lanes = record { fine = λ l l< n. absurd (n (B .lanes l)) };

@@ -27,7 +27,8 @@ use Rattle.turns.specs.Stages.{stageOn}
 use Rattle.updates.specs.Update.{idleUpdater, putStage, updateStep}
 use Rattle.updates.proofs.Moves.{Moved, not-moved, stage-moves}
 use Rattle.grid.specs.Run.{Grid, gridOf}
-use Rattle.tuples.proofs.Inv.{Ghost, Inv, inPool}
+use Rattle.cells.proofs.Chains.{inPool}
+use Rattle.tuples.proofs.Inv.{Ghost, Inv}
 use Rattle.runs.specs.Sweeps.{query}
 use Rattle.runs.proofs.Bucket.{store, has-store}
 use Rattle.runs.proofs.Deep.{Deep, deep-one, stands-deep, pooled-deep}

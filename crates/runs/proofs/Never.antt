@@ -32,7 +32,8 @@ use Rattle.queries.proofs.Numbers.{scan-number}
 use Rattle.grid.specs.Run.{Grid}
 use Rattle.machine.specs.Ends.{need}
 use Rattle.machine.specs.Machine.{St, Out, enterAt, leaveAt, readAt, queryStep}
-use Rattle.tuples.proofs.Inv.{Ranked, Ghost, inChain, unlinked, Inv}
+use Rattle.cells.proofs.Chains.{inChain, unlinked}
+use Rattle.tuples.proofs.Inv.{Ranked, Ghost, Inv}
 use Rattle.tuples.proofs.Main.{ranges}
 use Rattle.tuples.proofs.Walk.{keeps-walk}
 use Rattle.runs.proofs.Bucket.{store}
@@ -43,7 +44,7 @@ use Rattle.runs.proofs.Going.{QueryOk}
 use Rattle.hits.proofs.Look.{look-no}
 use Rattle.runs.proofs.Lists.{Listed, room}
 use Rattle.runs.proofs.Sim.{need-some, ends-some}
-use Rattle.runs.proofs.View.{view, scannerF, tup-at, first-at}
+use Rattle.runs.proofs.View.{view, scannerF, tup-at}
 
 -- a number that is not 12 comes of no refusal
 pub not-refused : {S B : Type 0} (o : Outcome (Step S B)) → numberOf o ≢ 12 → o ≢ corrupt
@@ -125,9 +126,9 @@ module _ (d : St) where
       (ltb→lt _ _ (x .0), λ n. open-some (d .next b) _ (rw (ne-eqb _ _ n) at (x .1)))
 
 -- a query's step, by where it stands
-walk-some : {gh : Ghost} (d : St) → Inv store gh d → (q : ℕ) → q < 4 → (c : ℕ) (o : Option ℕ) → d .queries q .bucket ≡ o → (r : Out) × (queryStep q c o d ≡ some r)
-walk-some d I q q< c o e =
-    let w = ends-some (queryStep q c o d) (rw e at (keeps-walk I q q< c)) in
+walk-some : {gh : Ghost} (d : St) → Inv store gh d → (q : ℕ) → q < 4 → (c : ℕ) → c < 256 → (o : Option ℕ) → d .queries q .bucket ≡ o → (r : Out) × (queryStep q c o d ≡ some r)
+walk-some d I q q< c c< o e =
+    let w = ends-some (queryStep q c o d) (rw e at (keeps-walk I q q< c c<)) in
     (w .0, w .1)
 
 -- ---- a link, a stamp and a list
@@ -215,11 +216,11 @@ module _ (g : Grid) (G : Good g) (q : ℕ) (q< : q < 4) where
   abbrev t : Tables
   t = g .tables
 
-  first≤ : (c : ℕ) → view g .first c ≤ 512
-  first≤ c = by-height (G .ghost .height c) refl
+  first≤ : (c : ℕ) → c < 256 → view g .first c ≤ 512
+  first≤ c c< = by-height (G .ghost .height c) refl
     where
       by-height : (h : ℕ) → G .ghost .height c ≡ h → view g .first c ≤ 512
-      by-height zero e = omega (arith, G .inv .links .empty c e)
+      by-height zero e = omega (arith, G .inv .links .empty c c< e)
       by-height (suc h) e = omega (arith, G .inv .links .within _ c h (G .inv .links .top c h e) .2)
 
   pub enter-never : (c : ℕ) → s .stage ≡ Enter c → numberOf (scanOn t q s (Enter c)) ≢ 12
@@ -229,10 +230,9 @@ module _ (g : Grid) (G : Good g) (q : ℕ) (q< : q < 4) where
       let o = rw e at (G .asks q q<) in
       let v = o .0 .visits in
       let c< : c < 256 = visited-below (s .question) c v in
-      let f : view g .first c ≡ at (t .first) c = first-at (t .first) c (Z .first) c< in
-      let w = walk-some (view g) (G .inv) q q< c none (rw e) in
+      let w = walk-some (view g) (G .inv) q q< c c< none (rw e) in
       rw (scan-number t q s Z (Enter c)) (enter-clear t q s c (omega (arith, o .2)) v (ranges (G .inv) .cellLocks c)
-      (λ z n. rw f at (enter-some (view g) q c (w .0) (w .1) z (rw f n))) (omega (arith, first≤ c)))
+      (λ z n. enter-some (view g) q c (w .0) (w .1) z n) (first≤ c c<))
 
   -- a bucket that a query stands in
   stood< : (b c h : ℕ) → (G .ghost .own b ≡ inChain c h) ⊎ ((l : ℕ) × (G .ghost .own b ≡ unlinked l c h)) → b < 512
@@ -254,7 +254,7 @@ module _ (g : Grid) (G : Good g) (q : ℕ) (q< : q < 4) where
       let few : s .steps ≤ 655616 = omega (arith, o .2 (k .h) (stands-deep I b _ (k .h) (k .owned))) in
       rw (scan-number t q s Z (Read c w)) (either (eqb r 0) _ _ _
       (λ z.
-      let m = walk-some (view g) I q q< c (some b) at-b in
+      let m = walk-some (view g) I q q< c (visited-below (s .question) c v) (some b) at-b in
       let n = leave-some (view g) q c b (m .0) (m .1) (left ∙ eqb-true r 0 z) in
       leave-clear t q s c few v b b< (n .0) (ranges I .readers b) (n .1) _)
       (λ z.

@@ -9,7 +9,6 @@ use mathlib.Core.List.{List, _∷_}
 use Prim.Native.Nat.{ℕ, zero, suc, _<_}
 use native.Mathlib.Omega.{arith}
 use lib.Dec.{T}
-use lib.ListN.{length, getD}
 use Rattle.base.specs.Outcome.{Outcome, corrupt, blocked, done}
 use Rattle.base.specs.Lists.{In, here, there}
 use Rattle.base.specs.Table.{at, clash}
@@ -19,19 +18,19 @@ use Rattle.pool.proofs.Laws.{has-some}
 use Rattle.slots.specs.Tuple.{Tuple}
 use Rattle.index.specs.Index.{Entry, lookup}
 use Rattle.cells.specs.Walk.{chainOf}
-use Rattle.cells.proofs.Chains.{Owner as Holder, inPool as pooled, inChain as chained, unlinked as loose, Links as Chained, Full as Packed}
 use Rattle.cells.proofs.Walked.{Walked, chain-walked, later-full}
 use Rattle.stage.specs.declared.Stage.{Stage}
 use Rattle.stage.specs.declared.Stage.the-variants.{Idle, TakeObject, LockCell, LookLast, CopyLast, LowerCount, ReturnBucket, ErasePlace, ChooseCell, MakeRoom, WriteTuple, RaiseCount, SwitchPlace, DeleteOld, ReleaseObject}
 use Rattle.tables.specs.Tables.{Tables}
 use Rattle.grid.specs.Run.{Grid}
-use Rattle.tuples.proofs.Inv.{Owner, inPool, inChain, unlinked, Links, Full, Ghost, Lives, kCur, kPrev, sel, plain, celHeld, ownHeld, movHeld, cl, mv, goal}
+use Rattle.cells.proofs.Chains.{inChain}
+use Rattle.tuples.proofs.Inv.{Ghost, Lives, kCur, kPrev, sel, plain, celHeld, ownHeld, movHeld, cl, mv, goal}
 use Rattle.tuples.proofs.Facts.{two-kinds}
 use Rattle.tuples.proofs.Dry.{one-free}
 use Rattle.runs.specs.Quiet.{updater, ClockFits, NeverDry, heldCell, LocksOwned, heldObjects, ObjectsOwned, ChainsEnd, LaterFull, Quiet, NoLocks, tupleOf, positive, negative, HasTuple, Named, SameTuples}
 use Rattle.runs.proofs.Bucket.{store-has}
 use Rattle.runs.proofs.Every.{Good}
-use Rattle.runs.proofs.View.{view, lockF, placesF, came, tupF, tup-at, first-at}
+use Rattle.runs.proofs.View.{view, lockF, placesF, came, tupF, tup-at}
 use Rattle.runs.proofs.Sim.{T-true}
 
 -- ---- at any time
@@ -147,40 +146,6 @@ module _ (g : Grid) (G : Good g) (quiet : Quiet g) where
     objects = λ k e q. no-object k (e .lock) (rw q);
   }
 
--- ---- the chains of the invariant, as walking finds them
-
--- an owner in the words of the chains
-unfoldable pub theirs : Owner → Holder
-theirs inPool = pooled
-theirs (inChain c h) = chained c h
-theirs (unlinked l c h) = loose l c h
-
-pub to-theirs : (o : Owner) (c h : ℕ) → o ≡ inChain c h → theirs o ≡ chained c h
-unfolding theirs
-to-theirs o c h e = rw e
-
-pub from-theirs : (o : Owner) (c h : ℕ) → theirs o ≡ chained c h → o ≡ inChain c h
-unfolding theirs
-from-theirs inPool c h e = clash (cc)
-from-theirs (inChain c′ h′) c h e = cc
-from-theirs (unlinked l c′ h′) c h e = clash (cc)
-
--- the links of the machine are those of the chains, where the table of first buckets has its length
-pub links : (own : ℕ → Owner) (height next : ℕ → ℕ) (first : List ℕ) → length first ≡ 256 → Links own height (λ c. getD first c 512) next → Chained (λ b. theirs (own b)) height (at first) next
-links own height next first long L =
-    record {
-      empty = λ c c< e. sym (first-at first c long c<) ∙ L .empty c e;
-      top = λ c h e. let t = L .top c h e in rw (← (first-at first c long (L .within _ c h t .0))) (to-theirs _ c h t);
-      up = λ b c h o. to-theirs _ c h (L .up b c h (from-theirs _ c (suc h) o));
-      bottom = λ b c o. L .bottom b c (from-theirs _ c 0 o);
-      one = λ b b′ c h o o′. L .one b b′ c h (from-theirs _ c h o) (from-theirs _ c h o′);
-      within = λ b c h o. L .within b c h (from-theirs _ c h o);
-    }
-
--- and so are the counts
-fulls : (own : ℕ → Owner) (height count : ℕ → ℕ) → Full own height count → Packed (λ b. theirs (own b)) height count
-fulls own height count F = record { below = λ b c h o. F .below b c h (from-theirs _ c h o); most = λ b c h o. F .most b c h (from-theirs _ c h o) }
-
 -- ---- places in the index
 
 -- a number read as a place
@@ -210,14 +175,10 @@ module _ (g : Grid) (G : Good g) where
   abbrev gh : Ghost
   gh = G .ghost
 
-  -- the links, in the words of the chains
-  linked : Chained (λ b. theirs (gh .own b)) (gh .height) (at (t .first)) (at (t .next))
-  unfolding view
-  linked = links (gh .own) (gh .height) (at (t .next)) (t .first) (G .shape .lengths .first) (G .inv .links)
-
   -- walking a cell
-  walk : (c : ℕ) → c < 256 → (l : List ℕ) × Walked (λ b. theirs (gh .own b)) (gh .height) (t .first) (t .next) c l
-  walk c c< = chain-walked (t .first) (t .next) c linked c<
+  walk : (c : ℕ) → c < 256 → (l : List ℕ) × Walked (gh .own) (gh .height) (t .first) (t .next) c l
+  unfolding view
+  walk c c< = chain-walked (t .first) (t .next) c (G .inv .links) c<
 
   pub chains-end : ChainsEnd t
   chains-end c c< = let w = walk c c< in (w .0, w .1 .chain)
@@ -228,12 +189,12 @@ module _ (g : Grid) (G : Good g) where
       let w = walk c c< in
       let q : some (w .0) ≡ some (b ∷ rest) = sym (w .1 .chain) ∙ e in
       let same : w .0 ≡ b ∷ rest = cc in
-      later-full (t .first) (t .count) (t .next) c linked (fulls (gh .own) (gh .height) (at (t .count)) (G .inv .full)) b rest
-      (subst (λ (l : List ℕ). Walked (λ x. theirs (gh .own x)) (gh .height) (t .first) (t .next) c l) same (w .1)) j i
+      later-full (t .first) (t .count) (t .next) c (G .inv .links) (G .inv .full) b rest
+      (subst (λ (l : List ℕ). Walked (gh .own) (gh .height) (t .first) (t .next) c l) same (w .1)) j i
 
   -- a bucket of a chain is found by walking
   pub in-walk : (b c h : ℕ) → gh .own b ≡ inChain c h → (chain : List ℕ) × (chainOf (t .first) (t .next) c ≡ some chain) × In b chain
-  in-walk b c h o = let w = walk c (G .inv .links .within b c h o .0) in (w .0, w .1 .chain, w .1 .all b h (to-theirs _ c h o))
+  in-walk b c h o = let w = walk c (G .inv .links .within b c h o .0) in (w .0, w .1 .chain, w .1 .all b h o)
 
   -- The slot of a live place is below 4, so its tuple is the one of the tables.
   tuple-of : (p : Place) → Lives (gh .own) (at (t .count)) p → tupF (t .tuples) (p .bucket) (p .slot) ≡ tupleOf t p
@@ -249,7 +210,7 @@ module _ (g : Grid) (G : Good g) where
       record {
         chain = w .0;
         walked = w .1 .chain;
-        found = w .1 .all (p .bucket) (L .h) (to-theirs _ (p .cell) (L .h) (L .owned));
+        found = w .1 .all (p .bucket) (L .h) (L .owned);
         counted = L .low;
         object = ap (λ (v : Tuple). v .oid) (sym (tuple-of p L)) ∙ o;
       }
@@ -261,7 +222,7 @@ module _ (g : Grid) (G : Good g) where
       let q : some l ≡ some (w .0) = sym e ∙ w .1 .chain in
       let same : l ≡ w .0 = cc in
       let o = w .1 .theirs (p .bucket) (rw same at i) in
-      record { h = o .0; owned = from-theirs _ (p .cell) (o .0) (o .2); low = low }
+      record { h = o .0; owned = o .2; low = low }
 
 module _ (g : Grid) (G : Good g) (quiet : Quiet g) where
   -- No object is locked, so the places of an object are those in the index.

@@ -1,7 +1,7 @@
 -- Stages 4, 5 and 6 of an update: what the grid does is what the machine does.
 -- Each real stage is computed first, over any tables whose numbers are in range.
 -- Where the machine's stage is not refused, its tests say that the first bucket and its count are in range; the invariant says it of the cell, of the place being erased, of the readers, and that the pool has not the bucket given back.
-use mathlib.Core.Path.{_≡_, refl, sym, ap, _∙_}
+use mathlib.Core.Path.{_≡_, refl, ap, _∙_}
 use mathlib.Core.Logic.{_≢_}
 use mathlib.Core.Bool.{true, _&&_}
 use mathlib.Core.Option.{Option, some}
@@ -34,7 +34,7 @@ use Rattle.tuples.proofs.Facts.{at-stage}
 use Rattle.tuples.proofs.Main.{ranges, place-range, T-and-split}
 use Rattle.runs.proofs.Bucket.{ops, store, given}
 use Rattle.runs.proofs.Sizes.{lengths-first, lengths-count, lengths-pool, lengths-tuples}
-use Rattle.runs.proofs.View.{view, Shape, tup-set, tup-at, first-at}
+use Rattle.runs.proofs.View.{view, Shape, tup-set, tup-at}
 use Rattle.runs.proofs.Sim.{Sim, stepped, sim-held, sim-moved, need-some, some-one, lanes-set, lanes-length}
 
 -- ---- what the real stages come to, where every number is in range
@@ -113,10 +113,6 @@ module _ (g : Grid) (Z : Shape g) (gh : Ghost) (I : Inv store gh (view g)) (l : 
   unfolding view
   cell-low s e = rw e at (ranges I .held l l<)
 
-  -- the first bucket of a cell in range, as the machine sees it
-  first-is : (c : ℕ) → c < 256 → at (t .first) c ≡ getD (t .first) c 512
-  first-is c c< = sym (first-at (t .first) c (Z .lengths .first) c<)
-
   -- the grid after a stage that leaves the index as it is
   shaped : (n : ℕ) (s : Stage) (t′ : Tables) → Lengths t′ → t′ .index ≡ t .index → Shape (stepped g l (stepOf n s t′))
   shaped n s t′ L q = record { lengths = L; updaters = lanes-length (g .updaters) l s (Z .updaters); queries = Z .queries; index = rw q (Z .index); coded = rw q (Z .coded) }
@@ -125,7 +121,7 @@ module _ (g : Grid) (Z : Shape g) (gh : Ghost) (I : Inv store gh (view g)) (l : 
   pub sim-4 : (p : Place) (m : ℕ) (r : Out) → u .stage ≡ CopyLast p m → doStage ops l u (view g) (CopyLast p m) ≡ some r → Sim g l (stageOn t (suc l) u (CopyLast p m)) r
   unfolding doStage stage4m stageOn lift view Ok mv cl bk sel
   sim-4 p m r st e =
-      let f : ℕ = getD (t .first) (p .cell) 512 in
+      let f : ℕ = at (t .first) (p .cell) in
       let h = tested f (at (t .count) f) _ e in
       let w = at-stage I l l< (CopyLast p m) st in
       let at-p = place-range I kPrev (u .oid) p (ap (λ (x : Pos). x .prev) (w .1) ∙ w .0) in
@@ -134,7 +130,7 @@ module _ (g : Grid) (Z : Shape g) (gh : Ghost) (I : Inv store gh (view g)) (l : 
       let v = tupleAt d (slotAt f (at (t .count) f - 1)) in
       let i = slotAt (p .bucket) (p .slot) in
       sim-moved (stepOf 0 (LowerCount p m) (withTuples t (putTuple d i v))) _
-      (rw (does-4 (t .first) (t .count) p m f (at-p .0) (first-is (p .cell) (at-p .0)) (h .0) (h .1) (h .2) d (at-p .1) (at-p .2)))
+      (rw (does-4 (t .first) (t .count) p m f (at-p .0) refl (h .0) (h .1) (h .2) d (at-p .1) (at-p .2)))
       (some-one (h .3))
       (shaped 0 (LowerCount p m) _ (lengths-tuples t L (putTuple d i v) (length-set (d .oid) i (v .oid) ∙ L .owners) (length-set (d .x) i (v .x) ∙ L .xs) (length-set (d .y) i (v .y) ∙ L .ys) (length-set (d .time) i (v .time) ∙ L .times)) refl)
       (rw (tup-set d (p .bucket) (p .slot) v (L .owners) (L .xs) (L .ys) (L .times) (at-p .1) (at-p .2), tup-at d f (at (t .count) f - 1) (omega (arith, h .1, h .2)), lanes-set (g .updaters) l (LowerCount p m) (Z .updaters) l<))
@@ -143,25 +139,24 @@ module _ (g : Grid) (Z : Shape g) (gh : Ghost) (I : Inv store gh (view g)) (l : 
   pub sim-5 : (p : Place) (m : ℕ) (r : Out) → u .stage ≡ LowerCount p m → doStage ops l u (view g) (LowerCount p m) ≡ some r → Sim g l (stageOn t (suc l) u (LowerCount p m)) r
   unfolding doStage stage5m stageOn lift pick view cl celHeld
   sim-5 p m r st e =
-      let f : ℕ = getD (t .first) (p .cell) 512 in
+      let f : ℕ = at (t .first) (p .cell) in
       let n : ℕ = at (t .count) f in
       let h = tested f n _ e in
       let c< : p .cell < 256 = cell-low (LowerCount p m) st tt in
       let L = Z .lengths in
-      let is = first-is (p .cell) c< in
       let f# : f < length (t .count) = omega (arith, h .0, L .count) in
       by-test (eqb n 1)
       (λ z.
       let z′ : n ≡ 1 = eqb-true _ _ z in
       let k = need-some (leb (at (t .next) f) 512) _ (rw z at (h .3)) in
       sim-moved (stepOf 0 (ReturnBucket p m f) (withCount (withFirst t (set (t .first) (p .cell) (at (t .next) f))) (set (t .count) f 0))) _
-      (rw (does-5-one (t .first) (t .count) p m f c< is (h .0) (h .1) (h .2) (t .next) z′ (leb→le _ _ (k .0))))
+      (rw (does-5-one (t .first) (t .count) p m f c< refl (h .0) (h .1) (h .2) (t .next) z′ (leb→le _ _ (k .0))))
       (some-one (k .1))
       (shaped 0 (ReturnBucket p m f) _ (lengths-count (withFirst t _) (lengths-first t L _ (length-set (t .first) (p .cell) (at (t .next) f) ∙ L .first)) _ (length-set (t .count) f 0 ∙ L .count)) refl)
-      (rw (at-set (t .first) (p .cell) (at (t .next) f) 512 (omega (arith, L .first)), at-set (t .count) f 0 0 f#, z′, lanes-set (g .updaters) l (ReturnBucket p m f) (Z .updaters) l<)))
+      (rw (at-set (t .first) (p .cell) (at (t .next) f) 0 (omega (arith, L .first)), at-set (t .count) f 0 0 f#, z′, lanes-set (g .updaters) l (ReturnBucket p m f) (Z .updaters) l<)))
       (λ z.
       sim-moved (stepOf 0 (ErasePlace p m) (withCount (withFirst t (t .first)) (set (t .count) f (n - 1)))) _
-      (rw (does-5-more (t .first) (t .count) p m f c< is (h .0) (h .1) (h .2) (t .next) (eqb-false _ _ z)))
+      (rw (does-5-more (t .first) (t .count) p m f c< refl (h .0) (h .1) (h .2) (t .next) (eqb-false _ _ z)))
       (some-one (rw z at (h .3)))
       (shaped 0 (ErasePlace p m) _ (lengths-count t L _ (length-set (t .count) f (n - 1) ∙ L .count)) refl)
       (rw (at-set (t .count) f (n - 1) 0 f#, lanes-set (g .updaters) l (ErasePlace p m) (Z .updaters) l<)))

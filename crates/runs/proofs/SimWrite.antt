@@ -49,7 +49,7 @@ use Rattle.tuples.proofs.Facts.{at-stage}
 use Rattle.tuples.proofs.Main.{ranges, place-range}
 use Rattle.runs.proofs.Bucket.{ops, store, taken}
 use Rattle.runs.proofs.Sizes.{lengths-first, lengths-cells, lengths-count, lengths-next, lengths-pool, lengths-tuples, lengths-times, lengths-clock}
-use Rattle.runs.proofs.View.{view, Shape, came, placeF, knownF, placesF, tupF, tup-set, tup-at, first-at}
+use Rattle.runs.proofs.View.{view, Shape, came, placeF, knownF, placesF, tupF, tup-set, tup-at}
 use Rattle.runs.proofs.Sim.{Sim, stepped, sim-held, sim-moved, need-some, some-one, lanes-set, lanes-length}
 use Rattle.runs.proofs.Objects.{known-some, decode-at}
 
@@ -261,7 +261,7 @@ module _ (g : Grid) (Z : Shape g) (gh : Ghost) (I : Inv store gh (view g)) (l : 
       (rw (gr, is, m, pushed chains c w c< k))
       (some-one (n .1))
       (shaped WriteTuple _ (lengths-pool t₃ L₃ (w .pool) (took-length (t .pool) w k ∙ L .pool)) refl)
-      (rw (first-at (t .first) c (L .first) c<, at-set (t .first) c b 512 (omega (arith, L .first)), at-set (t .count) b 0 0 (omega (arith, L .count)), at-set (t .next) b (at (t .first) c) 0 (omega (arith, L .next)), lanes-set (g .updaters) l WriteTuple (Z .updaters) l<))
+      (rw (at-set (t .first) c b 0 (omega (arith, L .first)), at-set (t .count) b 0 0 (omega (arith, L .count)), at-set (t .next) b (at (t .first) c) 0 (omega (arith, L .next)), lanes-set (g .updaters) l WriteTuple (Z .updaters) l<))
 
   -- a new first bucket, where one is wanted
   sim-push : (c : ℕ) (r : Out) → cellOf (u .x) (u .y) ≡ c → onGrid (u .x) (u .y) ≡ true → c < 256 → makeRoom chains c ≡ push chains c
@@ -274,10 +274,10 @@ module _ (g : Grid) (Z : Shape g) (gh : Ghost) (I : Inv store gh (view g)) (l : 
   unfolding doStage stage9m stageOn stage9 lift andThen pick need view
   sim-9 r st e =
       let c = cellOf (u .x) (u .y) in
-      let f = getD (t .first) c 512 in
+      let f = at (t .first) c in
       let gr = on-grid (λ z. clash (cc)) in
       let c< : c < 256 = cell-below (u .x) (u .y) gr in
-      let is : at (t .first) c ≡ f = sym (first-at (t .first) c (Z .lengths .first) c<) in
+      let is : at (t .first) c ≡ f = refl in
       by-test (eqb f 512)
       (λ z. sim-push c r refl gr c< (room-none chains c f is c< (eqb-true _ _ z)) (rw z at e))
       (λ z.
@@ -298,7 +298,7 @@ module _ (g : Grid) (Z : Shape g) (gh : Ghost) (I : Inv store gh (view g)) (l : 
   unfolding doStage stage10m stageOn stage10 lift andThen draw need view
   sim-10 r st e =
       let c = cellOf (u .x) (u .y) in
-      let f = getD (t .first) c 512 in
+      let f = at (t .first) c in
       let n = at (t .count) f in
       let n₁ = need-some (ltb f 512) _ e in
       let n₂ = need-some (ltb n 4) _ (n₁ .1) in
@@ -311,7 +311,7 @@ module _ (g : Grid) (Z : Shape g) (gh : Ghost) (I : Inv store gh (view g)) (l : 
       let v = fresh (u .oid) (u .x) (u .y) (t .clock) in
       let s = RaiseCount (record { cell = c; bucket = f; slot = n }) in
       sim-moved (stepOf 0 s (withClock (withTuples t (putTuple (t .tuples) (slotAt f n) v)) (t .clock + 1))) _
-      (rw (gr, lt-ltb (t .clock) 2147483647 t<, written (t .first) (t .count) (t .tuples) c f (u .oid) (u .x) (u .y) (t .clock) (sym (first-at (t .first) c (Z .lengths .first) c<)) c< f< n< t<))
+      (rw (gr, lt-ltb (t .clock) 2147483647 t<, written (t .first) (t .count) (t .tuples) c f (u .oid) (u .x) (u .y) (t .clock) refl c< f< n< t<))
       (some-one (n₃ .1))
       (shaped s _ (lengths-clock _ (put-lengths (slotAt f n) v) (t .clock + 1)) refl)
       (rw (tup-set (t .tuples) f n v (Z .lengths .owners) (Z .lengths .xs) (Z .lengths .ys) (Z .lengths .times) f< n<, add-one (t .clock), lanes-set (g .updaters) l s (Z .updaters) l<))

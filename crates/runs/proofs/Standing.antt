@@ -24,7 +24,8 @@ use Rattle.query.specs.declared.Query.{Query}
 use Rattle.queries.specs.Query.{idleQuery}
 use Rattle.grid.specs.Run.{Grid}
 use Rattle.machine.specs.Sums.{sum, bit, count-none}
-use Rattle.tuples.proofs.Inv.{Ok, bk, stands-in, inPool, inChain, unlinked}
+use Rattle.cells.proofs.Chains.{inPool, inChain, unlinked}
+use Rattle.tuples.proofs.Inv.{Ok, bk, stands-in}
 use Rattle.tuples.proofs.Facts.{at-stage}
 use Rattle.runs.specs.Quiet.{updater}
 use Rattle.runs.specs.Sweeps.{query, listed, ListFits, standsIn, standing, ReadersFit}

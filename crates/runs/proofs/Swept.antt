@@ -29,7 +29,8 @@ use Rattle.queries.specs.Scans.{scanOn}
 use Rattle.queries.specs.Query.{idleQuery}
 use Rattle.grid.specs.Run.{Grid}
 use Rattle.machine.specs.Machine.{St, Out, enterAt, leaveAt, readAt, queryStep}
-use Rattle.tuples.proofs.Inv.{Ghost, Inv, inChain}
+use Rattle.cells.proofs.Chains.{inChain}
+use Rattle.tuples.proofs.Inv.{Ghost, Inv}
 use Rattle.tuples.proofs.Main.{T-and-split}
 use Rattle.tuples.proofs.Walk.{keeps-walk}
 use Rattle.runs.proofs.Asking.{enter-ok, leave-ok, considered, read-ok}
@@ -44,7 +45,7 @@ use Rattle.runs.proofs.Scanned.{enter-done, leave-done, read-done}
 use Rattle.runs.proofs.Sim.{ends-some, need-some, some-one}
 use Rattle.runs.proofs.SameBut.{same-but}
 use Rattle.runs.proofs.SimScan.{scanned, Scans, enters, leaves, reads}
-use Rattle.runs.proofs.View.{view, scannerF, tupF, tup-at, Shape, first-at}
+use Rattle.runs.proofs.View.{view, scannerF, tupF, tup-at, Shape}
 
 -- ---- the machine's step of a query that stands in a bucket
 
@@ -82,9 +83,9 @@ module _ (g : Grid) (G : Good g) (q : ℕ) (q< : q < 4) where
   t = g .tables
 
   -- the machine's step kept the invariant, and so does the grid's
-  by-machine : (m : Step Query Tables) (c : ℕ) (o : Option Out) → queryStep q c (view g .queries q .bucket) (view g) ≡ o → Scans g q m o → (gh : Ghost) × Inv store gh (view (scanned g q m))
-  by-machine m c o e w =
-      let k = ends-some _ (keeps-walk (G .inv) q q< c) in
+  by-machine : (m : Step Query Tables) (c : ℕ) → c < 256 → (o : Option Out) → queryStep q c (view g .queries q .bucket) (view g) ≡ o → Scans g q m o → (gh : Ghost) × Inv store gh (view (scanned g q m))
+  by-machine m c c< o e w =
+      let k = ends-some _ (keeps-walk (G .inv) q q< c c<) in
       let r : k .0 ≡ (w .1 .0, 0) = sym (some-one (sym (k .1) ∙ e ∙ w .1 .1)) in
       (k .2 .0, same-but q (w .1 .2) (rw (← (ap (λ (x : Out). x .0) r)) (k .2 .1)))
 
@@ -116,9 +117,9 @@ module _ (g : Grid) (G : Good g) (q : ℕ) (q< : q < 4) where
   first-low c c< n h d = go (G .ghost .height c) refl
     where
       go : (x : ℕ) → G .ghost .height c ≡ x → h ≤ 511
-      go zero e = absurd (n (sym (first-at (t .first) c (G .shape .lengths .first) c<) ∙ G .inv .links .empty c e))
+      go zero e = absurd (n (G .inv .links .empty c c< e))
       go (suc x) e =
-          let o : G .ghost .own (at (t .first) c) ≡ inChain c x = rw (first-at (t .first) c (G .shape .lengths .first) c<) at (G .inv .links .top c x e) in
+          let o : G .ghost .own (at (t .first) c) ≡ inChain c x = G .inv .links .top c x e in
           let k : h ≡ x = deep-one d (stands-deep (G .inv) (at (t .first) c) c x (inl o)) in
           omega (arith, height-most (G .inv) c)
 
@@ -149,7 +150,7 @@ module _ (g : Grid) (G : Good g) (q : ℕ) (q< : q < 4) where
       good-after m
       (readers-left m (a .0 .tables) (a .2) (rw (a .3) (enter-ok (view g .known) (at (t .next)) (t .hits .oid) q s c (t .first) (t .count) (enter-done s c (t .cells) (t .first) (t .count) (t .readers) (a .0) (a .1)) (first-low c c<) k)))
       (w .0)
-      (by-machine m c (enterAt q c (view g)) (rw b) w)
+      (by-machine m c c< (enterAt q c (view g)) (rw b) w)
 
   module _ (c : ℕ) (w : Standing) (m : Step Query Tables) (e : s .stage ≡ Read c w) where
     -- no slot left
@@ -164,6 +165,10 @@ module _ (g : Grid) (G : Good g) (q : ℕ) (q< : q < 4) where
     lefts : view g .queries q .left ≡ w .left
     unfolding view scannerF
     lefts = rw e
+
+    in-range : c < 256
+    unfolding QueryOk
+    in-range = visited-below (s .question) c (asked (Read c w) e .0 .visits)
 
     walks-leave : w .left ≡ 0 → queryStep q c (view g .queries q .bucket) (view g) ≡ leaveAt q (w .bucket) (view g)
     unfolding readAt
@@ -184,7 +189,7 @@ module _ (g : Grid) (G : Good g) (q : ℕ) (q< : q < 4) where
         good-after m
         (readers-left m (a .0 .tables) (a .2) (rw (a .3) (leave-ok (view g .known) (at (t .next)) (t .hits .oid) q s c (t .next) (t .count) (w .bucket) (leave-done s c (t .next) (t .count) (t .readers) (w .bucket) (a .0) (a .1)) refl (under .0) (under .1) k′)))
         (x .0)
-        (by-machine m c (leaveAt q (w .bucket) (view g)) (walks-leave z) x)
+        (by-machine m c in-range (leaveAt q (w .bucket) (view g)) (walks-leave z) x)
 
     -- a slot left
     is-read : w .left ≢ 0 → scanOn t q s (Read c w) ≡ lift (withHits t) (readStep (t .tuples) (t .hits) q s c w)
@@ -216,4 +221,4 @@ module _ (g : Grid) (G : Good g) (q : ℕ) (q< : q < 4) where
         let a = lift-parts (withHits t) (readStep (t .tuples) (t .hits) q s c w) m (sym (is-read z) ∙ o) in
         let x = reads g (G .shape) q q< (G .inv) c w m e z (ap (scanOn t q s) e ∙ o) in
         let kn : T (view g .known (view g .tup (w .bucket) (w .left - 1) .oid)) = read-known (view g) q (w .bucket) (w .left) _ z (x .1 .1) in
-        good-after m (read-left z m (a .0) (a .1) kn (a .2) (a .3)) (x .0) (by-machine m c (readAt q (w .bucket) (w .left) (view g)) walks-read x)
+        good-after m (read-left z m (a .0) (a .1) kn (a .2) (a .3)) (x .0) (by-machine m c in-range (readAt q (w .bucket) (w .left) (view g)) walks-read x)

@@ -4,7 +4,7 @@ use mathlib.Core.Logic.{_⊎_, inl, inr, ⊎-elim}
 use mathlib.Core.Bool.{Bool}
 use mathlib.Core.Option.{none, some}
 use mathlib.Core.List.{List, [], _∷_}
-use Prim.Native.Nat.{ℕ, zero, suc, _-_, _≤_, _<_}
+use Prim.Native.Nat.{ℕ, zero, suc, _≤_, _<_}
 use native.Mathlib.Omega.{arith}
 use lib.Dec.{T}
 use Rattle.base.specs.Table.{at-or, clash}
@@ -12,7 +12,8 @@ use Rattle.layout.specs.declared.place.Place.{Place}
 use Rattle.slots.specs.Tuple.{Tuple}
 use Rattle.machine.specs.Machine.{Scanner}
 use Rattle.machine.specs.History.{Mem, onTop, deeper, told}
-use Rattle.tuples.proofs.Inv.{Owner, inChain, Pos, Kind, sel, pl, Slots, Links}
+use Rattle.cells.proofs.Chains.{Owner, inChain, Links}
+use Rattle.tuples.proofs.Inv.{Pos, Kind, sel, pl, Slots}
 use Rattle.tuples.proofs.Fresh.{Stood, Ahead, later, under, here, main, Witness}
 
 mem-split : {C : Type 0} (c x : ℕ) (xs : List ℕ) → Mem c (x ∷ xs) → (c ≡ x → C) → (Mem c xs → C) → C

@@ -3,7 +3,7 @@ use mathlib.Core.Path.{_≡_, refl, sym, ap, _∙_}
 use mathlib.Core.Logic.{_≢_, _⊎_, inl, inr, ⊎-elim}
 use mathlib.Core.Bool.{Bool}
 use mathlib.Core.Option.{some}
-use Prim.Native.Nat.{ℕ, zero, suc, _+_, _-_, _≤_, _<_}
+use Prim.Native.Nat.{ℕ, zero, suc, _+_, _≤_, _<_}
 use native.Mathlib.Omega.{arith}
 use lib.Dec.{T, ltb→lt}
 use lib.IntN.{ℤ, pos, negsuc, natAbs}
@@ -16,7 +16,8 @@ use Rattle.stage.specs.declared.Stage.{Stage}
 use Rattle.stage.specs.declared.Stage.the-variants.{Idle, ReturnBucket}
 use Rattle.stage.specs.declared.Updater.{Updater}
 use Rattle.machine.specs.Machine.{Scanner, St, put, to}
-use Rattle.tuples.proofs.Inv.{Owner, inChain, unlinked, Pos, Kind, kCur, kPrev, kNew, sel, Slots, Fit, Fits, topOf, Ok, mv, cl, goal, bk, filling, Ghost, OkAt, Lanes, CellLocks, ObjLocks, Filled, Back, draws, Ticks, Young, Placed, Reading}
+use Rattle.cells.proofs.Chains.{Owner, inChain, unlinked}
+use Rattle.tuples.proofs.Inv.{Pos, Kind, kCur, kPrev, kNew, sel, Slots, Fit, Fits, topOf, Ok, mv, cl, goal, bk, filling, Ghost, OkAt, Lanes, CellLocks, ObjLocks, Filled, Back, draws, Ticks, Young, Placed, Reading}
 use Rattle.machine.specs.Sums.{sum}
 use Rattle.tuples.proofs.Local.{Local, others}
 use Rattle.tuples.proofs.Slots.{put-same, put-else, slot-or}

@@ -3,7 +3,7 @@ use mathlib.Core.Path.{_≡_, refl, sym, _∙_}
 use mathlib.Core.Logic.{_≢_, _⊎_, inl, inr, ⊎-elim}
 use mathlib.Core.Bool.{Bool, true, false, _||_}
 use mathlib.Core.Option.{Option, some}
-use Prim.Native.Nat.{ℕ, suc, _-_, _≤_, _<_}
+use Prim.Native.Nat.{ℕ, suc, _≤_, _<_}
 use native.Mathlib.Omega.{arith}
 use lib.Dec.{T, ltb, lt→ltb, eqb-refl}
 use lib.IntN.{ℤ, negsuc}
@@ -16,7 +16,8 @@ use Rattle.machine.specs.Machine.{Scanner, St, put}
 use Rattle.machine.specs.History.{Spot, Mem, Trip, spotOf, listed, told, Hist, during, ofObject}
 use Rattle.machine.specs.Ends.{Ends, done, refused}
 use Rattle.machine.specs.Sums.{bit, sum-term, bit-yes}
-use Rattle.tuples.proofs.Inv.{Owner, inChain, Pos, Kind, kCur, kPrev, kNew, kDup, sel, Ghost}
+use Rattle.cells.proofs.Chains.{Owner, inChain}
+use Rattle.tuples.proofs.Inv.{Pos, Kind, kCur, kPrev, kNew, kDup, sel, Ghost}
 use Rattle.tuples.proofs.Fresh.{aim, Met, live, left, Goods, main, Witness, Owed, Fresh}
 use Rattle.tuples.proofs.Ahead.{same-bucket, Goes, Steady, carry}
 use Rattle.tuples.proofs.Slots.{slot-or, put-same, put-else}

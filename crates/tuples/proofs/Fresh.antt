@@ -4,7 +4,7 @@ use mathlib.Core.Logic.{_≢_, _⊎_}
 use mathlib.Core.Bool.{Bool, true, false}
 use mathlib.Core.Option.{Option, none, some}
 use mathlib.Core.List.{List, [], _∷_}
-use Prim.Native.Nat.{ℕ, _-_, _≤_, _<_}
+use Prim.Native.Nat.{ℕ, _≤_, _<_}
 use lib.Dec.{T}
 use Rattle.machine.specs.Marks.{stands, stood}
 use Rattle.layout.specs.declared.place.Place.{Place}
@@ -14,7 +14,8 @@ use Rattle.stage.specs.declared.Stage.the-variants.{Idle, TakeObject, LockCell,
 use Rattle.stage.specs.declared.Updater.{Updater}
 use Rattle.machine.specs.Machine.{Scanner, St}
 use Rattle.machine.specs.History.{Spot, Hit, Mem, Trip, inside, spotOf, hit, listed, told, Hist, during}
-use Rattle.tuples.proofs.Inv.{Owner, inChain, unlinked, Pos, Kind, kCur, kPrev, kNew, kDup, sel, Ghost, ownHeld}
+use Rattle.cells.proofs.Chains.{Owner, inChain, unlinked}
+use Rattle.tuples.proofs.Inv.{Pos, Kind, kCur, kPrev, kNew, kDup, sel, Ghost, ownHeld}
 
 -- stage 13 or 14: the current tuple is at the reported place already
 unfoldable pub late : Stage → Bool

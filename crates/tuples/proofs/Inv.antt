@@ -17,25 +17,9 @@ use Rattle.stage.specs.declared.Stage.{Stage}
 use Rattle.stage.specs.declared.Stage.the-variants.{Idle, TakeObject, LockCell, LookLast, CopyLast, LowerCount, ReturnBucket, ErasePlace, ChooseCell, MakeRoom, WriteTuple, RaiseCount, SwitchPlace, DeleteOld, ReleaseObject}
 use Rattle.stage.specs.declared.Updater.{Updater}
 use Rattle.machine.specs.Machine.{Entry, Scanner, St}
+use Rattle.cells.proofs.Chains.{Owner, inPool, inChain, unlinked, Links, Full, Loose}
 
--- ---- layer A's ghost
-pub data Owner : Type 0 where
-  inPool : Owner
-  inChain : ℕ → ℕ → Owner
-  unlinked : ℕ → ℕ → ℕ → Owner
-
-pub record Links (own : ℕ → Owner) (height : ℕ → ℕ) (first next : ℕ → ℕ) : Type 0 where
-  pub empty : (c : ℕ) → height c ≡ 0 → first c ≡ 512
-  pub top : (c h : ℕ) → height c ≡ suc h → own (first c) ≡ inChain c h
-  pub up : (b c h : ℕ) → own b ≡ inChain c (suc h) → own (next b) ≡ inChain c h
-  pub bottom : (b c : ℕ) → own b ≡ inChain c 0 → next b ≡ 512
-  pub one : (b b′ c h : ℕ) → own b ≡ inChain c h → own b′ ≡ inChain c h → b ≡ b′
-  pub within : (b c h : ℕ) → own b ≡ inChain c h → (c < 256) × (h < height c) × (b < 512)
-
-pub record Full (own : ℕ → Owner) (height : ℕ → ℕ) (count : ℕ → ℕ) : Type 0 where
-  pub below : (b c h : ℕ) → own b ≡ inChain c h → suc h < height c → count b ≡ 4
-  pub most : (b c h : ℕ) → own b ≡ inChain c h → count b ≤ 4
-
+-- ---- the pool, in the words of the chains' owners
 pub record Stored {O : StoreOps} (S : Store O) (own : ℕ → Owner) (pool : List ℕ) : Type 0 where
   pub has : (b : ℕ) → S .Has pool b → (b < 512) × (own b ≡ inPool)
   pub all : (b : ℕ) → b < 512 → own b ≡ inPool → S .Has pool b
@@ -328,12 +312,6 @@ pub record Filled (own : ℕ → Owner) (count cellLock : ℕ → ℕ) (lanes : 
 
 pub record Back (own : ℕ → Owner) (lanes : ℕ → Updater) : Type 0 where
   pub lane : (b l c h : ℕ) → own b ≡ unlinked l c h → (b < 512) × (l < 8) × ((p : Place) × (m : ℕ) × (lanes l .stage ≡ ReturnBucket p m b))
-
--- an unlinked bucket still leads to what was below it
-pub record Loose (own : ℕ → Owner) (next count : ℕ → ℕ) : Type 0 where
-  pub up : (b l c h : ℕ) → own b ≡ unlinked l c (suc h) → own (next b) ≡ inChain c h
-  pub bottom : (b l c : ℕ) → own b ≡ unlinked l c 0 → next b ≡ 512
-  pub full : (b l c h : ℕ) → own b ≡ unlinked l c (suc h) → count (next b) ≡ 4
 
 unfoldable pub stands-in : Option ℕ → ℕ → Bool
 stands-in none b = false

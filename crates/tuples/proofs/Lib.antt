@@ -9,9 +9,8 @@ pub mod Local
 pub mod Locks
 pub mod Main
 pub mod Moves
-pub mod Push
+pub mod Pooled
 pub mod Rest
-pub mod Return
 pub mod Slots
 pub mod Stage10
 pub mod Stage12
@@ -20,5 +19,4 @@ pub mod Stage5
 pub mod Stage7
 pub mod Stage8
 pub mod Stage9
-pub mod Unlink
 pub mod Walk

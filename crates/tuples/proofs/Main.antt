@@ -1,9 +1,9 @@
 -- Start; the fresh deck; every list of calls; what follows.
 use mathlib.Core.Path.{_≡_, refl, sym, ap, _∙_}
-use mathlib.Core.Logic.{_≢_, _⊎_, inl, inr, ⊎-elim}
+use mathlib.Core.Logic.{_≢_, inl, inr, ⊎-elim}
 use mathlib.Core.Bool.{Bool, true, false, not, _&&_}
 use mathlib.Core.Option.{Option, none, some}
-use Prim.Native.Nat.{ℕ, zero, suc, _-_, _≤_, _<_}
+use Prim.Native.Nat.{ℕ, zero, suc, _≤_, _<_}
 use native.Mathlib.Omega.{arith}
 use lib.Dec.{T, leb, ltb, ltb→lt, nleb→lt}
 use Rattle.base.specs.Table.{upd, upd-same, upd-other, at-or, clash}
@@ -16,7 +16,8 @@ use Rattle.stage.specs.declared.Stage.the-variants.{Idle, TakeObject, LockCell,
 use Rattle.stage.specs.declared.Updater.{Updater}
 use Rattle.stage.specs.Turn.{isIdle}
 use Rattle.machine.specs.Machine.{St, Out, withLanes, withKnown, withSize, Call, start, turn, walk, begin, step, doStage}
-use Rattle.tuples.proofs.Inv.{inPool, Kind, kCur, kPrev, kNew, kDup, sel, mk, Ok, ownHeld, movHeld, celHeld, mv, cl, goal, bk, filling, Ghost, Ranked, draws, Inv, stands-in}
+use Rattle.cells.proofs.Chains.{inPool}
+use Rattle.tuples.proofs.Inv.{Kind, kCur, kPrev, kNew, kDup, sel, mk, Ok, ownHeld, movHeld, celHeld, mv, cl, goal, bk, filling, Ghost, Ranked, draws, Inv, stands-in}
 use Rattle.tuples.proofs.Slots.{learn}
 use Rattle.tuples.proofs.Local.{Local}
 use Rattle.tuples.proofs.Locks.{still, cells-step, objs-step}
@@ -195,7 +196,7 @@ module _ {O : StoreOps} (S : Store O) where
     pub keeps : (q : Call) → Kept (step O q d)
     unfolding step
     keeps (start l k x y) = keeps-begin l k x y
-    keeps (walk q c) = ends-pick _ _ _ (λ _. done (g, I)) (λ t. keeps-walk I q (ltb→lt _ _ (T-stable (ltb q 4) t)) c)
+    keeps (walk q c) = ends-pick _ _ _ (λ _. done (g, I)) (λ t. ends-pick _ _ _ (λ _. done (g, I)) (λ t₂. keeps-walk I q (ltb→lt _ _ (T-stable (ltb q 4) t)) c (ltb→lt _ _ (T-stable (ltb c 256) t₂))))
     keeps (turn l) = ends-pick _ _ _ (λ _. done (g, I)) (λ t. by-stage l (ltb→lt _ _ (T-stable (ltb l 8) t)) _ refl)
 
 -- ---- nothing is under way

@@ -1,6 +1,6 @@
 -- Stages 1, 2, 3, 6, 14.
 use mathlib.Core.Path.{_≡_, refl, sym, ap, _∙_}
-use mathlib.Core.Logic.{_≢_, _⊎_, inl, inr, ⊎-elim}
+use mathlib.Core.Logic.{_≢_, inl, inr, ⊎-elim}
 use mathlib.Core.Bool.{true, false}
 use mathlib.Core.Option.{Option, some}
 use Prim.Native.Nat.{ℕ, suc, _-_, _≤_, _<_}
@@ -13,7 +13,8 @@ use Rattle.layout.specs.declared.place.Place.{Place}
 use Rattle.stage.specs.declared.Stage.{Stage}
 use Rattle.stage.specs.declared.Stage.the-variants.{Idle, TakeObject, LockCell, LookLast, CopyLast, ReturnBucket, ErasePlace, ChooseCell, ReleaseObject}
 use Rattle.machine.specs.Machine.{St, Out, to, putLane, withCellLock, withLock, withPool, stage1, stage2, stage3, stage6, stage14}
-use Rattle.tuples.proofs.Inv.{inPool, unlinked, kPrev, sel, plain, topOf, Erasing, Ok, ownHeld, movHeld, celHeld, mv, cl, goal, bk, filling, Ghost, draws, Inv, stands-in}
+use Rattle.cells.proofs.Chains.{inPool, unlinked}
+use Rattle.tuples.proofs.Inv.{kPrev, sel, plain, topOf, Erasing, Ok, ownHeld, movHeld, celHeld, mv, cl, goal, bk, filling, Ghost, draws, Inv, stands-in}
 use Rattle.tuples.proofs.Slots.{relive}
 use Rattle.tuples.proofs.Local.{Local}
 use Rattle.tuples.proofs.Locks.{still, swap, objs-step}
@@ -21,7 +22,8 @@ use Rattle.tuples.proofs.Common.{oks, lanes-step, filled-step, filled-q
 use Rattle.tuples.proofs.Facts.{T-and, ends-fork, tall-of, at-stage, own-locked, some-tuple, obj-his, lane-known}
 use Rattle.tuples.proofs.Moves.{cells-keep, cells-drop, cells-take, objs-keep}
 use Rattle.machine.specs.Sums.{bit, bit-yes, sum-term}
-use Rattle.tuples.proofs.Return.{links-return, full-return, stored-return, old, kept}
+use Rattle.cells.proofs.Return.{links-return, full-return, loose-return, old, kept}
+use Rattle.tuples.proofs.Pooled.{stored-return}
 use Rattle.tuples.proofs.Effect.{Effect, forget, chains, same-tables}
 
 module _ {O : StoreOps} {S : Store O} {g : Ghost} {d : St} (I : Inv S g d) (l : ℕ) (l< : l < 8) where
@@ -259,7 +261,7 @@ module _ {O : StoreOps} {S : Store O} {g : Ghost} {d : St} (I : Inv S g d) (l : 
         record {
           links = links-return (g .own) b l (p .cell) h o (I .links);
           full = full-return (g .own) b l (p .cell) h o (I .full);
-          stored = stored-return (g .own) b l (p .cell) h o (I .back .lane b l (p .cell) h o .0) (I .stored);
+          stored = stored-return (I .stored) b l (p .cell) h o (I .back .lane b l (p .cell) h o .0);
           slots = relive (I .slots)
               (λ b′ c′ h′ i o′ lt. (kept (g .own) b l (p .cell) h o b′ c′ h′ o′, lt))
               (λ b′ c′ h′ i o′ lt. (old (g .own) b l (p .cell) h o b′ c′ h′ o′, lt));
@@ -267,17 +269,7 @@ module _ {O : StoreOps} {S : Store O} {g : Ghost} {d : St} (I : Inv S g d) (l : 
           free = I .free;
           ok = oks (to (d .lanes l) (ErasePlace p m)) L refl (I .cells) (I .objs) (I .ok) er;
           ranks = I .ranks;
-          loose = record {
-            up = λ b′ l′ c′ h′ o′. at-or b′ b
-                (λ e. let w : inPool ≡ unlinked l′ c′ (suc h′) = cc (upd-same (g .own) b inPool) in clash (cc))
-                (λ e. kept (g .own) b l (p .cell) h o _ c′ h′ (I .loose .up b′ l′ c′ h′ (rw (upd-other (g .own) b inPool b′ e) at o′)));
-            bottom = λ b′ l′ c′ o′. at-or b′ b
-                (λ e. let w : inPool ≡ unlinked l′ c′ 0 = cc (upd-same (g .own) b inPool) in clash (cc))
-                (λ e. I .loose .bottom b′ l′ c′ (rw (upd-other (g .own) b inPool b′ e) at o′));
-            full = λ b′ l′ c′ h′ o′. at-or b′ b
-                (λ e. let w : inPool ≡ unlinked l′ c′ (suc h′) = cc (upd-same (g .own) b inPool) in clash (cc))
-                (λ e. I .loose .full b′ l′ c′ h′ (rw (upd-other (g .own) b inPool b′ e) at o′));
-          };
+          loose = loose-return (g .own) b l (p .cell) h o (I .loose);
           reading = reading-step (λ b′ q c′ h′ q< e. let ne : b′ ≢ b = λ z. nobody q b′ q< e z in ⊎-elim
               (λ o′. inl (rw (upd-other (g .own) b inPool b′ ne) o′))
               (λ (o′ : (l : ℕ) × (g .own b′ ≡ unlinked l c′ h′)). inr (o′ .0, rw (upd-other (g .own) b inPool b′ ne) (o′ .1)))) (λ b i h. h) (I .reading);

@@ -3,7 +3,7 @@ use mathlib.Core.Path.{_≡_, refl, sym, ap, _∙_}
 use mathlib.Core.Logic.{_≢_, inl, inr}
 use mathlib.Core.Bool.{false}
 use mathlib.Core.Option.{none, some}
-use Prim.Native.Nat.{ℕ, suc, _-_, _<_}
+use Prim.Native.Nat.{ℕ, suc, _<_}
 use native.Mathlib.Omega.{arith}
 use lib.Dec.{T, lt→ltb, ltb}
 use Rattle.base.specs.Table.{upd, upd-same, upd-other, at-or, clash}
@@ -15,13 +15,14 @@ use Rattle.layout.specs.Place.{cellOf}
 use Rattle.slots.specs.Tuple.{Tuple}
 use Rattle.stage.specs.declared.Stage.the-variants.{WriteTuple, RaiseCount, SwitchPlace}
 use Rattle.machine.specs.Machine.{St, Out, put, to, putLane, withCount, withTup, withClock, noPrev, newTuple, stage10, stage11}
-use Rattle.tuples.proofs.Inv.{inChain, Pos, Kind, kCur, kPrev, kNew, kDup, sel, mk, pl, plain, Fit, Outside, Ok, ownHeld, movHeld, celHeld, mv, cl, goal, bk, filling, Ghost, draws, Inv}
+use Rattle.cells.proofs.Chains.{inChain}
+use Rattle.tuples.proofs.Inv.{Pos, Kind, kCur, kPrev, kNew, kDup, sel, mk, pl, plain, Fit, Outside, Ok, ownHeld, movHeld, celHeld, mv, cl, goal, bk, filling, Ghost, draws, Inv}
 use Rattle.tuples.proofs.Slots.{Lose, put-same, put-else, slot-or, retup, add}
 use Rattle.tuples.proofs.Local.{Local, freed}
 use Rattle.tuples.proofs.Common.{fit-same, fits-upd, oks, lanes-step, filled-step, back-quiet, ticks-step, timed, young-put, placed-same, reading-step, written-put}
-use Rattle.tuples.proofs.Facts.{tall-first, first-not, at-stage, own-locked, other-cell, lane-known}
+use Rattle.tuples.proofs.Facts.{cell-locked, tall-first, first-not, at-stage, own-locked, other-cell, lane-known}
 use Rattle.tuples.proofs.Moves.{cells-keep, objs-keep, loose-apart}
-use Rattle.tuples.proofs.Push.{full-count}
+use Rattle.cells.proofs.Counts.{full-count, loose-count}
 use Rattle.tuples.proofs.Stage8.{stands-suc, clock<}
 use Rattle.tuples.proofs.Fresh.{aim}
 use Rattle.machine.specs.History.{spotOf}
@@ -57,14 +58,14 @@ module _ {O : StoreOps} {S : Store O} {g : Ghost} {d : St} (I : Inv S g d) (l : 
     inv10 : g .gh k ≡ plain (d .ent k) → Outside (d .ent k) c → f < 512 → n < 4 → Inv S g after
     unfolding Ok mv cl bk sel celHeld ownHeld movHeld filling draws
     inv10 gk out f< n< =
-        let H = tall-first I c f< in
+        let H = tall-first I c (I .cells .his _ l (cell-locked I l l< WriteTuple st tt) .3) f< in
         let lockK = own-locked I l l< WriteTuple st tt in
         let L : Local l g d g after =
         record {
           ents = λ j z. refl;
           ghs = λ j z. refl;
           tops = λ c′ l′ ne z.
-              let x : d .first c′ ≢ f = first-not I f c (H .h) c′ (H .owned) (other-cell I l l< WriteTuple st tt c′ l′ ne z) in
+              let x : d .first c′ ≢ f = first-not I f c (H .h) c′ (H .owned) (I .cells .his c′ l′ z .3) (other-cell I l l< WriteTuple st tt c′ l′ ne z) in
               rw (upd-other (d .tup) f (upd (d .tup f) n v) (d .first c′) x);
           owns = λ b l′ c h ne z. refl;
           lanes = λ l′ ne. upd-other (d .lanes) l _ l′ ne;
@@ -137,10 +138,10 @@ module _ {O : StoreOps} {S : Store O} {g : Ghost} {d : St} (I : Inv S g d) (l : 
           go kNew z = absurd (z refl)
           go kDup _ = refl
 
-      inv11 : Inv S gg after₁₁
+      inv11 : c < 256 → Inv S gg after₁₁
       unfolding Ok mv cl bk sel celHeld ownHeld movHeld filling draws
-      inv11 =
-          let H = tall-first I c f< in
+      inv11 c< =
+          let H = tall-first I c c< f< in
           let lockK = own-locked I l l< (RaiseCount p) st tt in
           let owned : g .own (p .bucket) ≡ inChain (p .cell) (H .h) = rw (bf, pc) (H .owned) in
           let cn : d .count (p .bucket) ≡ p .slot = rw (bf, sn) in
@@ -149,7 +150,7 @@ module _ {O : StoreOps} {S : Store O} {g : Ghost} {d : St} (I : Inv S g d) (l : 
             ents = λ j z. refl;
             ghs = λ j z. sym (upd-other (g .gh) k g′ j (λ q. z (rw q lockK)));
             tops = λ c′ l′ ne z.
-                let x : d .first c′ ≢ p .bucket = first-not I (p .bucket) c (H .h) c′ (rw bf (H .owned)) (other-cell I l l< (RaiseCount p) st tt c′ l′ ne z) in
+                let x : d .first c′ ≢ p .bucket = first-not I (p .bucket) c (H .h) c′ (rw bf (H .owned)) (I .cells .his c′ l′ z .3) (other-cell I l l< (RaiseCount p) st tt c′ l′ ne z) in
                 rw (upd-other (d .count) (p .bucket) (suc (d .count (p .bucket))) (d .first c′) x);
             owns = λ b l′ c h ne z. refl;
             lanes = λ l′ ne. upd-other (d .lanes) l _ l′ ne;
@@ -170,7 +171,7 @@ module _ {O : StoreOps} {S : Store O} {g : Ghost} {d : St} (I : Inv S g d) (l : 
             free = freed L (λ j z z′. z′) (λ j z z′. absurd (omega arith)) (I .free);
             ok = oks (to (d .lanes l) (SwitchPlace p)) L refl (I .cells) (I .objs) (I .ok) (upd-same (g .gh) k g′, out, pc);
             ranks = I .ranks;
-            loose = record { up = I .loose .up; bottom = I .loose .bottom; full = λ b l′ c′ h′ o. rw (upd-other (d .count) (p .bucket) (suc (d .count (p .bucket))) (d .next b) (loose-apart I l l< (RaiseCount p) st tt (λ p′ m′ b′ e. clash (cc)) b l′ c′ h′ (p .bucket) (H .h) o (rw bf (H .owned)))) (I .loose .full b l′ c′ h′ o) };
+            loose = loose-count (p .bucket) (suc (d .count (p .bucket))) (λ b l′ c′ h′ o. loose-apart I l l< (RaiseCount p) st tt (λ p′ m′ b′ e. clash (cc)) b l′ c′ h′ (p .bucket) (H .h) o (rw bf (H .owned))) (I .loose);
             reading = I .reading;
             young = I .young;
             placed = record {
@@ -218,6 +219,11 @@ module _ {O : StoreOps} {S : Store O} {g : Ghost} {d : St} (I : Inv S g d) (l : 
               )) M) (says-eq refl));
         }
 
+    -- the cell is locked, so it is in range
+    goal< : c < 256
+    unfolding cl celHeld
+    goal< = I .cells .his _ l (cell-locked I l l< (RaiseCount p) st tt) .3
+
     pub keeps11c : spotOf (d .tup (p .bucket) (p .slot)) ≡ aim (d .lanes l) → Ends (λ (r : Out). (g′ : Ghost) × Inv S g′ (r .0) × Effect l g d g′ (r .0)) ⊥ (stage11 l (d .lanes l) p d)
     unfolding stage11 Ok mv cl bk
     keeps11c sp =
@@ -225,7 +231,7 @@ module _ {O : StoreOps} {S : Store O} {g : Ghost} {d : St} (I : Inv S g d) (l : 
         let e : p .bucket ≡ f = ap (λ (z : Place). z .bucket) (w .4) in
         let e₂ : p .slot ≡ n = ap (λ (z : Place). z .slot) (w .4) in
         let lt : d .count (p .bucket) < 4 = rw e (w .3) in
-        ends-must _ _ (lt→ltb _ _ lt) (done (gg, inv11 (w .0) (w .1) (w .2) (w .3) (w .4) (w .5) (w .6) (w .7), effect11 (rw (e, e₂) (w .5)) sp (w .0) (w .1 .noPrev) (rw (e, e₂))))
+        ends-must _ _ (lt→ltb _ _ lt) (done (gg, inv11 (w .0) (w .1) (w .2) (w .3) (w .4) (w .5) (w .6) (w .7) goal<, effect11 (rw (e, e₂) (w .5)) sp (w .0) (w .1 .noPrev) (rw (e, e₂))))
 
     pub keeps11 : Ends (λ (r : Out). (g′ : Ghost) × Inv S g′ (r .0)) ⊥ (stage11 l (d .lanes l) p d)
     unfolding stage11 Ok mv cl bk
@@ -233,4 +239,4 @@ module _ {O : StoreOps} {S : Store O} {g : Ghost} {d : St} (I : Inv S g d) (l : 
         let w = at-stage I l l< (RaiseCount p) st in
         let e : p .bucket ≡ f = ap (λ (z : Place). z .bucket) (w .4) in
         let lt : d .count (p .bucket) < 4 = rw e (w .3) in
-        ends-must _ _ (lt→ltb _ _ lt) (done (gg, inv11 (w .0) (w .1) (w .2) (w .3) (w .4) (w .5) (w .6) (w .7)))
+        ends-must _ _ (lt→ltb _ _ lt) (done (gg, inv11 (w .0) (w .1) (w .2) (w .3) (w .4) (w .5) (w .6) (w .7) goal<))

@@ -1,9 +1,9 @@
 -- Stage 12: the current place becomes the previous one, the new place the current one.
 use mathlib.Core.Path.{_≡_, refl, sym, _∙_}
-use mathlib.Core.Logic.{_⊎_, inl, inr, ⊎-elim}
+use mathlib.Core.Logic.{inl, inr, ⊎-elim}
 use mathlib.Core.Bool.{Bool, true, false}
 use mathlib.Core.Option.{none, some}
-use Prim.Native.Nat.{ℕ, _-_, _≤_, _<_}
+use Prim.Native.Nat.{ℕ, _≤_, _<_}
 use native.Mathlib.Omega.{arith}
 use Rattle.base.specs.Table.{upd, upd-same, upd-other, at-or, clash}
 use Rattle.machine.specs.Ends.{Ends, done, ends-must}

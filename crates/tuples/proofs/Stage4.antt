@@ -13,7 +13,8 @@ use Rattle.layout.specs.declared.place.Place.{Place}
 use Rattle.slots.specs.Tuple.{Tuple}
 use Rattle.stage.specs.declared.Stage.the-variants.{CopyLast, LowerCount}
 use Rattle.machine.specs.Machine.{St, Out, put, to, putLane, withTup, stage4}
-use Rattle.tuples.proofs.Inv.{inChain, Pos, Kind, kCur, kPrev, kNew, kDup, sel, mk, pl, plain, Lives, Slots, Fit, Fits, topOf, movedCur, movedPrev, Lowering, Ok, ownHeld, movHeld, celHeld, mv, cl, bk, filling, Ghost, draws, Inv}
+use Rattle.cells.proofs.Chains.{inChain}
+use Rattle.tuples.proofs.Inv.{Pos, Kind, kCur, kPrev, kNew, kDup, sel, mk, pl, plain, Lives, Slots, Fit, Fits, topOf, movedCur, movedPrev, Lowering, Ok, ownHeld, movHeld, celHeld, mv, cl, bk, filling, Ghost, draws, Inv}
 use Rattle.tuples.proofs.Slots.{Lose, put-same, put-else, slot-or, same-place, retup, rename, recolor}
 use Rattle.tuples.proofs.Local.{Local, freed}
 use Rattle.tuples.proofs.Locks.{still, cells-step, objs-step}
@@ -96,7 +97,7 @@ module _ {O : StoreOps} {S : Store O} {g : Ghost} {d : St} (I : Inv S g d) (l : 
         ents = λ j e. refl;
         ghs = λ j e. same j (λ z. e (rw z (h .lockK))) (λ z. e (rw z (h .lockM)));
         tops = λ c l′ ne e.
-            let x : d .first c ≢ p .bucket = first-not I (p .bucket) (p .cell) (h .pLives .h) c (h .pLives .owned) (other-cell I l l< (CopyLast p m) st tt c l′ ne e) in
+            let x : d .first c ≢ p .bucket = first-not I (p .bucket) (p .cell) (h .pLives .h) c (h .pLives .owned) (I .cells .his c l′ e .3) (other-cell I l l< (CopyLast p m) st tt c l′ ne e) in
             rw (upd-other (d .tup) (p .bucket) (upd (d .tup (p .bucket)) (p .slot) (d .tup f (n - 1))) (d .first c) x);
         owns = λ b l′ c h₁ ne e. refl;
         lanes = λ l′ ne. upd-other (d .lanes) l _ l′ ne;

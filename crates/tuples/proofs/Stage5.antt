@@ -1,6 +1,6 @@
 -- Stage 5: lower the first bucket's count; at 0 unlink it.
 use mathlib.Core.Path.{_≡_, refl, sym, ap, _∙_}
-use mathlib.Core.Logic.{_≢_, _⊎_, inl, inr, ⊎-elim}
+use mathlib.Core.Logic.{_≢_, inl, inr, ⊎-elim}
 use mathlib.Core.Bool.{false}
 use mathlib.Core.Option.{Option, none, some}
 use Prim.Native.Nat.{ℕ, zero, suc, _-_, _≤_, _<_}
@@ -12,15 +12,17 @@ use Rattle.machine.specs.Store.{StoreOps, Store}
 use Rattle.layout.specs.declared.place.Place.{Place}
 use Rattle.stage.specs.declared.Stage.the-variants.{LowerCount, ReturnBucket, ErasePlace}
 use Rattle.machine.specs.Machine.{St, Out, to, putLane, withFirst, withCount, stage5}
-use Rattle.tuples.proofs.Inv.{inChain, unlinked, Pos, Kind, kCur, kPrev, kNew, kDup, sel, mk, pl, Lives, Slots, Fit, Fits, Top, topOf, movedCur, movedPrev, Lowering, Erasing, Ok, ownHeld, movHeld, celHeld, mv, cl, bk, filling, Ghost, draws, Loose, Inv}
+use Rattle.cells.proofs.Chains.{inChain, unlinked}
+use Rattle.tuples.proofs.Inv.{Pos, Kind, kCur, kPrev, kNew, kDup, sel, mk, pl, Lives, Slots, Fit, Fits, Top, topOf, movedCur, movedPrev, Lowering, Erasing, Ok, ownHeld, movHeld, celHeld, mv, cl, bk, filling, Ghost, draws, Inv}
 use Rattle.tuples.proofs.Slots.{Lose, relive, drop}
 use Rattle.tuples.proofs.Local.{Local, freed}
 use Rattle.tuples.proofs.Locks.{still, cells-step, objs-step}
 use Rattle.tuples.proofs.Common.{fits-upd, oks, lanes-step, filled-step, back-step, back-quiet, ticks-step, placed-less, reading-step}
 use Rattle.tuples.proofs.Facts.{T-and, Tall, tall-of, first-not, at-stage, cell-locked, own-locked, mov-locked, other-cell, cell-his, obj-his}
-use Rattle.tuples.proofs.Push.{full-count}
+use Rattle.cells.proofs.Counts.{full-count, loose-count}
+use Rattle.cells.proofs.Unlink.{links-unlink, full-unlink, loose-unlink, old, kept, not-b}
 use Rattle.tuples.proofs.Moves.{loose-apart}
-use Rattle.tuples.proofs.Unlink.{links-unlink, full-unlink, stored-unlink, not-b, old, kept}
+use Rattle.tuples.proofs.Pooled.{stored-unlink}
 use Rattle.tuples.proofs.Fresh.{main}
 use Rattle.tuples.proofs.Effect.{Effect, main-or, forget, chains}
 
@@ -107,14 +109,14 @@ module _ {O : StoreOps} {S : Store O} {g : Ghost} {d : St} (I : Inv S g d) (l : 
     unfolding cl celHeld
     tops₁ v c′ l′ ne e =
         let w = other-cell I l l< (LowerCount p m) st tt c′ l′ ne e in
-        let x = first-not I f c (tall .h) c′ (tall .owned) w in
+        let x = first-not I f c (tall .h) c′ (tall .owned) (I .cells .his c′ l′ e .3) w in
         rw (upd-other (d .first) c v c′ w, upd-other (d .count) f (n - 1) (d .first c′) x)
 
     tops₂ : (c′ l′ : ℕ) → l′ ≢ l → d .cellLock c′ ≡ suc l′ → topOf (d .first) (d .count) (d .tup) c′ ≡ topOf (d .first) count′ (d .tup) c′
     unfolding cl celHeld
     tops₂ c′ l′ ne e =
         let w = other-cell I l l< (LowerCount p m) st tt c′ l′ ne e in
-        let x = first-not I f c (tall .h) c′ (tall .owned) w in
+        let x = first-not I f c (tall .h) c′ (tall .owned) (I .cells .his c′ l′ e .3) w in
         rw (upd-other (d .count) f (n - 1) (d .first c′) x)
 
     ghs₁ : (j : ℕ) → d .lock j ≢ suc l → g .gh j ≡ gh′ j
@@ -130,9 +132,6 @@ module _ {O : StoreOps} {S : Store O} {g : Ghost} {d : St} (I : Inv S g d) (l : 
     apart : (b l′ c′ h′ : ℕ) → g .own b ≡ unlinked l′ c′ (suc h′) → d .next b ≢ f
     unfolding cl celHeld
     apart b l′ c′ h′ o = loose-apart I l l< (LowerCount p m) st tt (λ p′ m′ b′ e. clash (cc)) b l′ c′ h′ f (tall .h) o (tall .owned)
-
-    loose-left : Loose (g .own) (d .next) count′
-    loose-left = record { up = I .loose .up; bottom = I .loose .bottom; full = λ b l′ c′ h′ o. rw (upd-other (d .count) f (n - 1) (d .next b) (apart b l′ c′ h′ o)) (I .loose .full b l′ c′ h′ o) }
 
     -- a tuple is left
     stays-main : (j : ℕ) (κ : Kind) → T (main κ) → (r : Place) → sel κ (g .gh j) ≡ some r → sel κ (gh′ j) ≡ some r
@@ -159,7 +158,7 @@ module _ {O : StoreOps} {S : Store O} {g : Ghost} {d : St} (I : Inv S g d) (l : 
             free = freed L (λ j e z. z) (λ j e z. absurd (omega arith)) (I .free);
             ok = oks (to (d .lanes l) (ErasePlace p m)) L refl (I .cells) (I .objs) (I .ok) (h .er);
             ranks = I .ranks;
-            loose = loose-left;
+            loose = loose-count f (n - 1) apart (I .loose);
             reading = I .reading;
             young = I .young;
             placed = placed-less (λ b c′ h′ i o lt. (o, low-count b i lt)) (I .placed);
@@ -174,31 +173,6 @@ module _ {O : StoreOps} {S : Store O} {g : Ghost} {d : St} (I : Inv S g d) (l : 
           },
           chains l g d low₁ (g .own) (g .height) gh′ (λ q q< b c h e o. o) (λ j κ mn r h₁ z o. (stays-main j κ mn r z, o)) (λ b c h i o lt. (o, low-count b i lt)) (λ _. refl) (λ _ _. refl),
         )
-
-    loose-gone : (hh : ℕ) → g .own f ≡ inChain c hh → g .height c ≡ suc hh → Loose (upd (g .own) f (unlinked l c hh)) (d .next) count′
-    loose-gone hh of tl =
-        let un : (b l′ c′ h′ : ℕ) → b ≢ f → upd (g .own) f (unlinked l c hh) b ≡ unlinked l′ c′ h′ → g .own b ≡ unlinked l′ c′ h′ = λ b l′ c′ h′ e o. rw (upd-other (g .own) f (unlinked l c hh) b e) at o in
-        let me : (b l′ c′ h′ : ℕ) → b ≡ f → upd (g .own) f (unlinked l c hh) b ≡ unlinked l′ c′ h′ → unlinked l c hh ≡ unlinked l′ c′ h′ = λ b l′ c′ h′ e o. cc (upd-same (g .own) f (unlinked l c hh)) in
-        let low : (h′ : ℕ) → hh ≡ suc h′ → g .own (d .next f) ≡ inChain c h′ = λ h′ w₂. I .links .up f c h′ (of ∙ rw w₂) in
-        let next≢ : (h′ : ℕ) → hh ≡ suc h′ → d .next f ≢ f = λ h′ w₂ z. let y : inChain c h′ ≡ inChain c hh = sym (low h′ w₂) ∙ ap (g .own) z ∙ of in let y′ : h′ ≡ hh = cc in omega arith in
-        record {
-          up = λ b l′ c′ h′ o. at-or b f
-              (λ e. let w = me b l′ c′ (suc h′) e o in
-              let w₁ : c ≡ c′ = cc in
-              let w₂ : hh ≡ suc h′ = cc in
-              rw (e, ← w₁) (rw (upd-other (g .own) f (unlinked l c hh) (d .next f) (next≢ h′ w₂)) (low h′ w₂)))
-              (λ e. let o₁ = un b l′ c′ (suc h′) e o in
-              rw (upd-other (g .own) f (unlinked l c hh) (d .next b) (apart b l′ c′ h′ o₁)) (I .loose .up b l′ c′ h′ o₁));
-          bottom = λ b l′ c′ o. at-or b f
-              (λ e. let w = me b l′ c′ 0 e o in let w₂ : hh ≡ 0 = cc in rw e (I .links .bottom f c (of ∙ rw w₂)))
-              (λ e. I .loose .bottom b l′ c′ (un b l′ c′ 0 e o));
-          full = λ b l′ c′ h′ o. at-or b f
-              (λ e. let w = me b l′ c′ (suc h′) e o in
-              let w₂ : hh ≡ suc h′ = cc in
-              rw e (rw (upd-other (d .count) f (n - 1) (d .next f) (next≢ h′ w₂)) (I .full .below (d .next f) c h′ (low h′ w₂) (omega arith))))
-              (λ e. let o₁ = un b l′ c′ (suc h′) e o in
-              rw (upd-other (d .count) f (n - 1) (d .next b) (apart b l′ c′ h′ o₁)) (I .loose .full b l′ c′ h′ o₁));
-        }
 
     -- none is left
     gone : n ≡ 1 → (g₁ : Ghost) × Inv S g₁ low₂ × Effect l g d g₁ low₂
@@ -220,7 +194,7 @@ module _ {O : StoreOps} {S : Store O} {g : Ghost} {d : St} (I : Inv S g d) (l : 
           record {
             links = links-unlink c l hh (tall .tall) (I .links);
             full = full-unlink c l hh (tall .tall) (I .links) (n - 1) (I .full);
-            stored = stored-unlink c l hh (tall .tall) (I .links) (I .stored);
+            stored = stored-unlink (I .stored) f l c hh (tall .owned);
             slots = relive slots₁
                 (λ b c′ h′ i o lt. (kept c l hh (tall .tall) (I .links) b c′ h′ (λ z. let w : count′ b ≡ 0 = rw z zero′ in omega arith) o, lt))
                 (λ b c′ h′ i o lt. (old c l hh (tall .tall) (I .links) b c′ h′ o, lt));
@@ -228,7 +202,7 @@ module _ {O : StoreOps} {S : Store O} {g : Ghost} {d : St} (I : Inv S g d) (l : 
             free = freed L (λ j e z. z) (λ j e z. absurd (omega arith)) (I .free);
             ok = oks (to (d .lanes l) (ReturnBucket p m f)) L refl (I .cells) (I .objs) (I .ok) (h .er, (hh, upd-same (g .own) f (unlinked l c hh)));
             ranks = I .ranks;
-            loose = loose-gone hh (tall .owned) (tall .tall);
+            loose = loose-unlink c l hh (tall .tall) (I .links) (n - 1) (I .full) (λ z. omega arith) (I .loose);
             reading = reading-step (λ b q c′ h₁ _ _. ⊎-elim
                 (λ o. at-or b f
                 (λ e. let w : inChain c hh ≡ inChain c′ h₁ = cc (tall .owned) in let w₁ : c ≡ c′ = cc in let w₂ : hh ≡ h₁ = cc in inr (l, rw (e, ← w₁, ← w₂) (upd-same (g .own) f (unlinked l c hh))))

@@ -1,9 +1,9 @@
 -- Stage 7: erase the former place; correct the moved object's entry; let go.
 use mathlib.Core.Path.{_≡_, refl, sym, _∙_}
-use mathlib.Core.Logic.{_≢_, _⊎_, inl, inr, ⊎-elim}
+use mathlib.Core.Logic.{_≢_, inl, inr, ⊎-elim}
 use mathlib.Core.Bool.{false}
 use mathlib.Core.Option.{none, some}
-use Prim.Native.Nat.{ℕ, suc, _-_, _<_}
+use Prim.Native.Nat.{ℕ, suc, _<_}
 use native.Mathlib.Omega.{arith}
 use lib.Dec.{T, ltb, eqb, eqb→eq, ltb→lt, eqb-refl, T-not}
 use lib.IntN.{ℤ, pos, negsuc}

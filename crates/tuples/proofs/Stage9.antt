@@ -1,9 +1,9 @@
 -- Stage 9: a bucket with room at the head of the chain.
 use mathlib.Core.Path.{_≡_, refl, sym, ap, _∙_}
-use mathlib.Core.Logic.{_≢_, _⊎_, inl, inr, ⊎-elim}
+use mathlib.Core.Logic.{_≢_, inl, inr, ⊎-elim}
 use mathlib.Core.Option.{Option, none, some}
 use mathlib.Core.List.{List}
-use Prim.Native.Nat.{ℕ, zero, suc, _-_, _≤_, _<_}
+use Prim.Native.Nat.{ℕ, zero, suc, _<_}
 use native.Mathlib.Omega.{arith}
 use lib.Dec.{lt→ltb, le→leb, leb, ltb, eqb, eqb→eq, eqb-refl, T-not}
 use Rattle.base.specs.Table.{upd, upd-same, upd-other, at-or, clash}
@@ -11,13 +11,15 @@ use Rattle.machine.specs.Ends.{Ends, done, ends-must, ends-pick, andThen, refus
 use Rattle.machine.specs.Store.{StoreOps, Store}
 use Rattle.stage.specs.declared.Stage.the-variants.{ReturnBucket, MakeRoom, WriteTuple}
 use Rattle.machine.specs.Machine.{St, Out, to, putLane, withFirst, withNext, withCount, withPool, takeFirst, stage9}
-use Rattle.tuples.proofs.Inv.{inPool, inChain, unlinked, plain, Outside, Ok, ownHeld, movHeld, celHeld, mv, cl, goal, bk, filling, Ghost, draws, Inv}
+use Rattle.cells.proofs.Chains.{inPool, inChain, unlinked}
+use Rattle.tuples.proofs.Inv.{plain, Outside, Ok, ownHeld, movHeld, celHeld, mv, cl, goal, bk, filling, Ghost, draws, Inv}
 use Rattle.tuples.proofs.Slots.{relive}
 use Rattle.tuples.proofs.Local.{Local, freed}
 use Rattle.tuples.proofs.Common.{oks, lanes-step, filled-step, filled-quiet, back-step, back-quiet, ticks-step, placed-less, reading-step}
 use Rattle.tuples.proofs.Facts.{tall-first, at-stage, own-locked, other-cell}
 use Rattle.tuples.proofs.Moves.{cells-keep, objs-keep}
-use Rattle.tuples.proofs.Push.{links-push, full-push, stored-take, old, kept}
+use Rattle.cells.proofs.Push.{links-push, full-push, loose-push, old, kept}
+use Rattle.tuples.proofs.Pooled.{stored-take}
 use Rattle.tuples.proofs.Effect.{Effect, chains, same-tables}
 
 -- a refusal only where the pool is dry
@@ -39,11 +41,11 @@ module _ {O : StoreOps} {S : Store O} {g : Ghost} {d : St} (I : Inv S g d) (l : 
   abbrev GoodC : Option Out → Type 0
   GoodC o = Ends (λ (r : Out). (g′ : Ghost) × Inv S g′ (r .0) × Effect l g d g′ (r .0)) (O .takeOne (d .pool) ≡ none) o
 
-  store-not : (b : ℕ) → b < 512 → g .own b ≡ inPool → (c′ : ℕ) → d .first c′ ≢ b
-  store-not b b< o c′ e = go (g .height c′) refl
+  store-not : (b : ℕ) → b < 512 → g .own b ≡ inPool → (c′ : ℕ) → c′ < 256 → d .first c′ ≢ b
+  store-not b b< o c′ c< e = go (g .height c′) refl
     where
       go : (x : ℕ) → g .height c′ ≡ x → ⊥
-      go zero z = omega (arith, I .links .empty c′ z)
+      go zero z = omega (arith, I .links .empty c′ c< z)
       go (suc h′) z = let w : inChain c′ h′ ≡ inPool = sym (I .links .top c′ h′ z) ∙ rw e o in clash (cc)
 
   module _ (gk : g .gh k ≡ plain (d .ent k)) (out : Outside (d .ent k) c) where
@@ -100,14 +102,14 @@ module _ {O : StoreOps} {S : Store O} {g : Ghost} {d : St} (I : Inv S g d) (l : 
           record {
             ents = λ j z. refl;
             ghs = λ j z. refl;
-            tops = λ c′ l′ ne z. rw (upd-other (d .first) c b c′ (other-cell I l l< MakeRoom st tt c′ l′ ne z), upd-other (d .count) b 0 (d .first c′) (store-not b b< ob c′));
+            tops = λ c′ l′ ne z. rw (upd-other (d .first) c b c′ (other-cell I l l< MakeRoom st tt c′ l′ ne z), upd-other (d .count) b 0 (d .first c′) (store-not b b< ob c′ (I .cells .his c′ l′ z .3)));
             owns = λ b′ l′ c h ne z. own-other b′ (λ e. clash (cc ob));
             lanes = λ l′ ne. upd-other (d .lanes) l _ l′ ne;
           } in
           record {
             links = links-push c b c< b< ob (I .links);
             full = full-push c b c< b< ob (I .links) was (I .full);
-            stored = stored-take r took (I .stored) c (g .height c);
+            stored = stored-take (I .stored) r took c (g .height c);
             slots = relive (I .slots)
                 (λ b′ c′ h i o lt. (kept c b c< b< ob (I .links) b′ c′ h o, rw (upd-other (d .count) b 0 b′ (λ e. clash (cc ob))) lt))
                 (λ b′ c′ h i o lt. at-or b′ b
@@ -118,18 +120,7 @@ module _ {O : StoreOps} {S : Store O} {g : Ghost} {d : St} (I : Inv S g d) (l : 
             ok = oks (to (d .lanes l) WriteTuple) L refl (I .cells) (I .objs) (I .ok)
                 (gk, out, rw (upd-same (d .first) c b) b<, rw (upd-same (d .first) c b, upd-same (d .count) b 0) (omega arith));
             ranks = I .ranks;
-            loose = record {
-              up = λ b′ l′ c′ h o. at-or b′ b
-                  (λ e. let w : inChain c (g .height c) ≡ unlinked l′ c′ (suc h) = cc own-same in clash (cc))
-                  (λ e. let t = I .loose .up b′ l′ c′ h (rw (own-other b′ e) at o) in rw (upd-other (d .next) b (d .first c) b′ e) (kept c b c< b< ob (I .links) _ c′ h t));
-              bottom = λ b′ l′ c′ o. at-or b′ b
-                  (λ e. let w : inChain c (g .height c) ≡ unlinked l′ c′ 0 = cc own-same in clash (cc))
-                  (λ e. rw (upd-other (d .next) b (d .first c) b′ e) (I .loose .bottom b′ l′ c′ (rw (own-other b′ e) at o)));
-              full = λ b′ l′ c′ h o. at-or b′ b
-                  (λ e. let w : inChain c (g .height c) ≡ unlinked l′ c′ (suc h) = cc own-same in clash (cc))
-                  (λ e. let o₁ = rw (own-other b′ e) at o in let t = I .loose .up b′ l′ c′ h o₁ in
-                  rw (upd-other (d .next) b (d .first c) b′ e) (rw (upd-other (d .count) b 0 (d .next b′) (λ z. let y : inChain c′ h ≡ inPool = sym t ∙ ap (g .own) z ∙ ob in clash (cc))) (I .loose .full b′ l′ c′ h o₁)));
-            };
+            loose = loose-push c b c< b< ob (I .links) (I .loose);
             reading = reading-step (λ b′ q c′ h _ _. ⊎-elim
                 (λ o. inl (kept c b c< b< ob (I .links) b′ c′ h o))
                 (λ (o : (l : ℕ) × (g .own b′ ≡ unlinked l c′ h)). inr (o .0, own-other b′ (λ e. let o₁ = o .1 in clash (cc ob)) ∙ o .1))) (λ b i h. h) (I .reading);
@@ -166,11 +157,11 @@ module _ {O : StoreOps} {S : Store O} {g : Ghost} {d : St} (I : Inv S g d) (l : 
     unfolding takeFirst
     takes c< was = may-then _ _ (λ r took. ends-must _ _ (lt→ltb _ _ (b< r took was)) (done (gg r took was, taken r took was c<, effect9 r took was c<)))
 
-  first≤ : d .first c ≢ 512 → d .first c < 512
-  first≤ n = go (g .height c) refl
+  first≤ : c < 256 → d .first c ≢ 512 → d .first c < 512
+  first≤ c< n = go (g .height c) refl
     where
       go : (x : ℕ) → g .height c ≡ x → d .first c < 512
-      go zero z = absurd (n (I .links .empty c z))
+      go zero z = absurd (n (I .links .empty c c< z))
       go (suc h′) z = I .links .within _ c h′ (I .links .top c h′ z) .2
 
   pub keeps9c : GoodC (stage9 O l (d .lanes l) d)
@@ -181,8 +172,8 @@ module _ {O : StoreOps} {S : Store O} {g : Ghost} {d : St} (I : Inv S g d) (l : 
       let c< : c < 256 = Rattle.tuples.proofs.Stage8.cell< _ _ (u .1) (u .2) in
       ends-pick _ _ _
       (λ t. takes (w .0) (w .1) c< (λ h e. let q : d .first c ≡ 512 = eqb→eq _ _ t in absurd (omega (arith, I .links .within _ c h (I .links .top c h e) .2))))
-      (λ t. let f< = first≤ (λ e. T-not (eqb (d .first c) 512) t (rw e (eqb-refl 512))) in
-      let H = tall-first I c f< in
+      (λ t. let f< = first≤ c< (λ e. T-not (eqb (d .first c) 512) t (rw e (eqb-refl 512))) in
+      let H = tall-first I c c< f< in
       ends-must _ _ (lt→ltb _ _ f<) (ends-must _ _ (le→leb _ _ (H .most)) (ends-pick _ _ _
       (λ t₂. takes (w .0) (w .1) c< (λ h e. eqb→eq _ _ t₂))
       (λ t₂. let ne : d .count (d .first c) ≢ 4 = λ e. T-not (eqb (d .count (d .first c)) 4) t₂ (rw e (eqb-refl 4)) in

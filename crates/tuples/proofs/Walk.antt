@@ -11,7 +11,8 @@ use Rattle.base.specs.Table.{upd, upd-same, upd-other, at-or, clash}
 use Rattle.machine.specs.Ends.{Ends, done, ends-must, ends-pick}
 use Rattle.machine.specs.Store.{StoreOps, Store}
 use Rattle.machine.specs.Machine.{St, Out, Scanner, withReaders, withQueries, enterAt, readAt, leaveAt, queryStep}
-use Rattle.tuples.proofs.Inv.{inChain, unlinked, Ghost, Standing, Reading, Inv, stands-in}
+use Rattle.cells.proofs.Chains.{inChain, unlinked}
+use Rattle.tuples.proofs.Inv.{Ghost, Standing, Reading, Inv, stands-in}
 use Rattle.tuples.proofs.Facts.{T-and, tall-first}
 use Rattle.machine.specs.Sums.{sum, bit, bit-le, bit-yes, sum-le, sum-const, sum-term}
 use Rattle.tuples.proofs.Common.{sum-one}
@@ -102,13 +103,13 @@ module _ {O : StoreOps} {S : Store O} {g : Ghost} {d : St} (I : Inv S g d) (q : 
   all-written : (b c h : ℕ) → g .own b ≡ inChain c h → Standing (g .own) (d .tup) b c (d .count b)
   all-written b c h o = record { h = h; owned = inl o; few = I .full .most b c h o; written = λ i lt. I .placed .inside b c h i o lt .1 }
 
-  enters : (c : ℕ) → d .queries q .bucket ≡ none → Good (enterAt q c d)
+  enters : (c : ℕ) → c < 256 → d .queries q .bucket ≡ none → Good (enterAt q c d)
   unfolding enterAt
-  enters c e = ends-pick _ _ _
+  enters c c< e = ends-pick _ _ _
       (λ t. ends-pick _ _ _ (λ _. done (g, I))
       (λ t₂. let f = d .first c in
-      let f< : f < 512 = first< c (λ z. T-not (eqb f 512) t₂ (rw z (eqb-refl 512))) in
-      let H = tall-first I c f< in
+      let f< : f < 512 = first< c c< (λ z. T-not (eqb f 512) t₂ (rw z (eqb-refl 512))) in
+      let H = tall-first I c c< f< in
       let v : Scanner = record { cell = c; bucket = some f; left = d .count f } in
       ends-must _ _ (lt→ltb _ _ f<) (ends-must _ _ (lt→ltb _ _ (room v f refl (not-standing f e))) (ends-must _ _ (le→leb _ _ (H .most))
       (done (
@@ -121,11 +122,11 @@ module _ {O : StoreOps} {S : Store O} {g : Ghost} {d : St} (I : Inv S g d) (q : 
       ))))))
       (λ t. done (g, I))
     where
-      first< : (c : ℕ) → d .first c ≢ 512 → d .first c < 512
-      first< c n = go (g .height c) refl
+      first< : (c : ℕ) → c < 256 → d .first c ≢ 512 → d .first c < 512
+      first< c c< n = go (g .height c) refl
         where
           go : (x : ℕ) → g .height c ≡ x → d .first c < 512
-          go zero z = absurd (n (I .links .empty c z))
+          go zero z = absurd (n (I .links .empty c c< z))
           go (suc h′) z = I .links .within _ c h′ (I .links .top c h′ z) .2
 
       not-standing : (f : ℕ) → d .queries q .bucket ≡ none → stands-in (d .queries q .bucket) f ≡ false
@@ -204,10 +205,10 @@ module _ {O : StoreOps} {S : Store O} {g : Ghost} {d : St} (I : Inv S g d) (q : 
               (λ b′ x. let y : b ≡ b′ = cc in rw (← y) (record { h = st .h; owned = st .owned; few = (let w = st .few in omega arith); written = λ i i<. st .written i (omega arith) }))),
         ))
 
-  walks : (c : ℕ) (o : Option ℕ) → d .queries q .bucket ≡ o → Good (queryStep q c o d)
+  walks : (c : ℕ) → c < 256 → (o : Option ℕ) → d .queries q .bucket ≡ o → Good (queryStep q c o d)
   unfolding queryStep
-  walks c none e = enters c e
-  walks c (some b) e = reads b e _ refl
+  walks c c< none e = enters c c< e
+  walks c c< (some b) e = reads b e _ refl
 
-  pub keeps-walk : (c : ℕ) → Good (queryStep q c (d .queries q .bucket) d)
-  keeps-walk c = walks c _ refl
+  pub keeps-walk : (c : ℕ) → c < 256 → Good (queryStep q c (d .queries q .bucket) d)
+  keeps-walk c c< = walks c c< _ refl
