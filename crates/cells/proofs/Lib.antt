@@ -3,6 +3,7 @@ mod Pick
 pub mod Chains
 pub mod Counts
 pub mod Empty
+pub mod Held
 pub mod Lower
 pub mod Push
 pub mod Return

@@ -212,8 +212,8 @@ module _ (g : Grid) (G : Good g) where
       let S : Sound (g .tables .pool) = store-sound (g .tables .pool) (G .inv .stored .fine) in
       sym
       (count-listed 512 (members (g .tables .pool)) (λ b. pooled (own b)) (S .once)
-      (λ b i. (S .below b i, pooled-yes (own b) (G .inv .stored .has b (has-store (g .tables .pool) b i) .1)))
-      (λ b b< t. store-has (g .tables .pool) b (G .inv .stored .all b b< (pooled-is (own b) t))))
+      (λ b i. (S .below b i, pooled-yes (own b) (G .inv .stored .held .has b (has-store (g .tables .pool) b i))))
+      (λ b b< t. store-has (g .tables .pool) b (G .inv .stored .held .all b b< (pooled-is (own b) t))))
 
   -- walking the chain of a cell finds the buckets that it owns, each once
   cell-counted : (c : ℕ) → c < 256 → found (chainOf (g .tables .first) (g .tables .next) c) ≡ count 512 (λ b. linkedIn (own b) c)

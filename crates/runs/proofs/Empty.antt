@@ -90,7 +90,7 @@ blank-inv d B pool =
     record {
       links = B .links;
       full = B .full;
-      stored = rw pool (record { has = λ b t. (whole b .0 t, refl); all = λ b b< o. whole b .1 b<; fine = sound-store fresh fresh-sound });
+      stored = rw pool (record { held = record { has = λ b t. refl; all = λ b b< o. whole b .1 b< }; below = λ b t. whole b .0 t; fine = sound-store fresh fresh-sound });
       slots = record { back = λ κ k p e. absurd (sel-none κ p e); forth = λ b c h i o lt. clash (cc); apart = λ κ κ′ k p e e′. absurd (sel-none κ p e) };
       fits = record { fit = λ k. record { curs = λ p e. clash (cc); news = λ p e. clash (cc); prevs = λ p e b. clash (cc); unflagged = λ p e b. clash (cc); far = λ p q e e′. clash (cc) } };
       free = record { free = λ k e. rw (B .ent k) };

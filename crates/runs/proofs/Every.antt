@@ -65,7 +65,7 @@ module _ (g : Grid) (G : Good g) (t′ : Tables) (us′ : List Updater) (P : Par
       by-leads : Leads (g .tables) t′ → Deep (at (g .tables .next)) b h
       by-leads (same n) = rw (ap at n) at d
       by-leads (other k v in-pool n) =
-          let own : G .ghost .own k ≡ inPool = G .inv .stored .has k (has-store (g .tables .pool) k in-pool) .1 in
+          let own : G .ghost .own k ≡ inPool = G .inv .stored .held .has k (has-store (g .tables .pool) k in-pool) in
           let bucket : scannerF (query g q .stage) .bucket ≡ some b = rw e in
           let s = G .inv .reading .standing q b q< bucket in
           let now : Deep (at (g .tables .next)) b (s .h) = stands-deep (G .inv) b _ (s .h) (s .owned) in

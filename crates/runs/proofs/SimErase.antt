@@ -178,7 +178,7 @@ module _ (g : Grid) (Z : Shape g) (gh : Ghost) (I : Inv store gh (view g)) (l : 
   sim-6 p m b r st e =
       let w = at-stage I l l< (ReturnBucket p m b) st .1 in
       let b< : b < 512 = I .back .lane b l (p .cell) (w .0) (w .1) .0 in
-      let out : store .Has (t .pool) b → ⊥ = λ x. let o = I .stored .has b x .1 in clash (cc) in
+      let out : store .Has (t .pool) b → ⊥ = λ x. let o = I .stored .held .has b x in clash (cc) in
       by-test (eqb (at (t .readers) b) 0)
       (λ z. let q = gave (t .pool) b (give (t .pool) b) out (store .give-had (t .pool) b (I .stored .fine) b< out) in returned p m b r (q .0) b< z (q .1) e)
       (λ z. sim-held (rw (does-6-held (t .readers) (t .pool) p m b b< (ranges I .readers b) (eqb-false _ _ z))) (some-one (rw z at e)))

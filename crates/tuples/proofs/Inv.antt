@@ -17,12 +17,12 @@ use Rattle.stage.specs.declared.Stage.{Stage}
 use Rattle.stage.specs.declared.Stage.the-variants.{Idle, TakeObject, LockCell, LookLast, CopyLast, LowerCount, ReturnBucket, ErasePlace, ChooseCell, MakeRoom, WriteTuple, RaiseCount, SwitchPlace, DeleteOld, ReleaseObject}
 use Rattle.stage.specs.declared.Updater.{Updater}
 use Rattle.machine.specs.Machine.{Entry, Scanner, St}
-use Rattle.cells.proofs.Chains.{Owner, inPool, inChain, unlinked, Links, Full, Loose}
+use Rattle.cells.proofs.Chains.{Owner, inPool, inChain, unlinked, Links, Full, Held, Loose}
 
 -- ---- the pool, in the words of the chains' owners
 pub record Stored {O : StoreOps} (S : Store O) (own : ℕ → Owner) (pool : List ℕ) : Type 0 where
-  pub has : (b : ℕ) → S .Has pool b → (b < 512) × (own b ≡ inPool)
-  pub all : (b : ℕ) → b < 512 → own b ≡ inPool → S .Has pool b
+  pub held : Held own (λ b. S .Has pool b)
+  pub below : (b : ℕ) → S .Has pool b → b < 512
   pub fine : S .Fine pool
 
 -- ---- layer B's ghost: for each oid the places of its tuples. `fresh`: the previous tuple is not flagged yet (stage 13)

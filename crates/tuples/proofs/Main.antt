@@ -186,7 +186,7 @@ module _ {O : StoreOps} (S : Store O) where
     by-stage l l< (ReturnBucket p m b) st = (keeps6 I l l< p m b st)
     by-stage l l< (ErasePlace p m) st = (keeps7 I l l< p m st)
     by-stage l l< ChooseCell st = (keeps8 I l l< st)
-    by-stage l l< MakeRoom st = weaken _ (λ r. let u = one-free I l l< st in S .take-some (d .pool) (u .0) (I .stored .fine) (I .stored .all (u .0) (u .1) (u .2)) r) (keeps9 I l l< st)
+    by-stage l l< MakeRoom st = weaken _ (λ r. let u = one-free I l l< st in S .take-some (d .pool) (u .0) (I .stored .fine) (I .stored .held .all (u .0) (u .1) (u .2)) r) (keeps9 I l l< st)
     by-stage l l< WriteTuple st = (keeps10 I l l< st)
     by-stage l l< (RaiseCount p) st = (keeps11 I l l< p st)
     by-stage l l< (SwitchPlace p) st = (keeps12 I l l< p st)

@@ -87,10 +87,10 @@ module _ {O : StoreOps} {S : Store O} {g : Ghost} {d : St} (I : Inv S g d) (l : 
       gg = record { own = upd (g .own) b (inChain c (g .height c)); height = upd (g .height) c (suc (g .height c)); gh = g .gh }
 
       b< : b < 512
-      b< = I .stored .has b (S .take-had (d .pool) r took) .0
+      b< = I .stored .below b (S .take-had (d .pool) r took)
 
       ob : g .own b ≡ inPool
-      ob = I .stored .has b (S .take-had (d .pool) r took) .1
+      ob = I .stored .held .has b (S .take-had (d .pool) r took)
 
       taken : c < 256 → Inv S gg after
       unfolding Ok mv cl bk celHeld ownHeld movHeld filling draws
