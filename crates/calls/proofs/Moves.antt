@@ -1,15 +1,15 @@
--- A step is refused, blocked, or has a number with a property P: the tests on the way to its end keep that.
+-- A step is refused, blocked, or P holds of its number and of what comes next: the tests on the way to its end keep that.
 use mathlib.Core.Bool.{Bool, true, false}
 use Prim.Native.Nat.{ℕ}
 use Rattle.base.specs.Outcome.{Outcome, corrupt, blocked, done, need, pick, andThen}
 use Rattle.base.specs.Step.{Step, lift}
 
-pub data Moves (P : ℕ → Type 0) {S B : Type 0} : Outcome (Step S B) → Type 0 where
+pub data Moves {S : Type 0} (P : ℕ → S → Type 0) {B : Type 0} : Outcome (Step S B) → Type 0 where
   stuck : Moves P corrupt
   held : Moves P blocked
-  moved : {m : Step S B} → P (m .number) → Moves P (done m)
+  moved : {m : Step S B} → P (m .number) (m .next) → Moves P (done m)
 
-module _ {P : ℕ → Type 0} {S B : Type 0} where
+module _ {S : Type 0} {P : ℕ → S → Type 0} {B : Type 0} where
   pub in-need : (b : Bool) (k : Outcome (Step S B)) → Moves P k → Moves P (need b k)
   unfolding need
   in-need true k m = m
@@ -33,5 +33,5 @@ module _ {P : ℕ → Type 0} {S B : Type 0} where
   in-lift g (done a) (moved m) = moved m
 
   -- what moved has the property
-  pub move-of : {m : Step S B} → Moves P (done m) → P (m .number)
+  pub move-of : {m : Step S B} → Moves P (done m) → P (m .number) (m .next)
   move-of (moved p) = p

@@ -1,9 +1,10 @@
 -- Document 01's starred trials (trials at the bench) as rows of one table, and one proof that covers the table.
 -- A row has what a definition gives and what document 01 says it gives.
 use mathlib.Core.Path.{_≡_, refl}
+use mathlib.Core.Option.{Option, none, some}
 use mathlib.Core.List.{List, [], _∷_, _++_}
 use Prim.Native.Nat.{ℕ, zero, suc}
-use lib.ListN.{drop, getD}
+use lib.ListN.{length, drop, getD}
 use Rattle.base.specs.Lists.{numbersFrom}
 use Rattle.base.specs.Outcome.{pick, one, need, await, andThen}
 use Rattle.layout.specs.Place.{onGrid, cellOf, encode, decode}
@@ -34,8 +35,13 @@ use Rattle.calls.specs.Call.{after, unless, stepped}
 use Rattle.updates.specs.Update.{updateStart, updateStep, started, hasRoom, idleUpdater, idleUpdaters}
 use Rattle.queries.specs.Scans.{scanOn}
 use Rattle.queries.specs.Query.{queryStart, queryStep, idleQueries, isFinished, isIdle as isIdleQuery}
-use Rattle.grid.specs.Collect.{collectQuery, entriesFrom}
+use Rattle.collect.specs.Collect.{collectQuery, entriesFrom}
 use Rattle.grid.specs.Run.{Grid, emptyGrid, Call, startUpdate, stepUpdate, startQuery, stepQuery, collect, Answer, call, run, answers}
+use Rattle.base.specs.Table.{upd}
+use Rattle.layout.specs.Question.{walk, rowsFrom, columns, rows}
+use Rattle.cells.specs.Walk.{chainOf, bucketsFrom, inFront, tuplesIn}
+use Rattle.machine.specs.Sums.{sum, bit}
+use Rattle.cost.specs.Account.{Event, history, deed, when, underWay, among, known as knownOf, tally, tallyStep, stepOf, Sweep, sweeps as queriesOf, latest, total, cellCount}
 
 pub record Row : Type 0 where
   pub gives : List ℕ
@@ -79,6 +85,19 @@ sweeps l (suc n) = stepQuery l ∷ sweeps l n
 -- the steps and the entries that a collection from lane 0 hands back after the calls, after its number
 collected : List Call → List ℕ
 collected cs = let a = call (collect 0 768) (run cs emptyGrid) .0 in a .number ∷ a .steps ∷ a .part
+
+-- the account of the last query of lane 0 after the calls: its steps, K, N, whether it has finished, what was found in its cells, and the tally's count
+accountBy : Option Sweep → ℕ → List ℕ
+accountBy none n = []
+accountBy (some q) n = q .steps ∷ cellCount (q .question) ∷ length (q .objects) ∷ bit (q .finished) ∷ total (q .entered) ∷ n ∷ []
+
+account : List Call → List ℕ
+account cs = let past = history cs emptyGrid [] in accountBy (latest 0 (queriesOf past)) (tally past 0 .count)
+
+-- the tally's answers to the accepted steps of queries, the last one first
+tallied : List Event → List ℕ
+tallied [] = []
+tallied (e ∷ past) = when (deed e .goes) (λ a. stepOf (e .seen) (tally past (a .0)) .0 ∷ tallied past) (tallied past)
 
 -- the number of a stage in document 01, 0 for idle
 stageNo : Stage → ℕ
@@ -141,6 +160,16 @@ table =
     ∷ row (collected ((start 0 9 100 100 ∷ steps 0 7) ++ (start 0 9 1100 100 ∷ steps 0 8) ++ (sweep 0 0 0 3071 100 ∷ sweeps 0 6) ++ (start 0 9 2100 100 ∷ steps 0 14) ++ sweeps 0 3)) (0 ∷ 9 ∷ 9 ∷ 2100 ∷ 100 ∷ [])
     -- which finishes with that step
     ∷ row (drop 39 (numbers emptyGrid ((start 0 9 100 100 ∷ steps 0 7) ++ (start 0 9 1100 100 ∷ steps 0 8) ++ (sweep 0 0 0 3071 100 ∷ sweeps 0 6) ++ (start 0 9 2100 100 ∷ steps 0 14) ++ sweeps 0 3))) (0 ∷ 0 ∷ 22 ∷ [])
+    -- its account: 9 steps with K = 3 and N = 1, which is K + 6N and more than K + 5N; 6 buckets and tuples were found
+    ∷ row (account ((start 0 9 100 100 ∷ steps 0 7) ++ (start 0 9 1100 100 ∷ steps 0 8) ++ (sweep 0 0 0 3071 100 ∷ sweeps 0 6) ++ (start 0 9 2100 100 ∷ steps 0 14) ++ sweeps 0 3)) (9 ∷ 3 ∷ 1 ∷ 1 ∷ 6 ∷ 9 ∷ [])
+    -- before its last step it has had 8, and has not finished
+    ∷ row (account ((start 0 9 100 100 ∷ steps 0 7) ++ (start 0 9 1100 100 ∷ steps 0 8) ++ (sweep 0 0 0 3071 100 ∷ sweeps 0 6) ++ (start 0 9 2100 100 ∷ steps 0 14) ++ sweeps 0 2)) (8 ∷ 3 ∷ 1 ∷ 0 ∷ 6 ∷ 8 ∷ [])
+    -- collected and followed by another query of the lane, which is blocked at the cell that a report has locked; a refused step (lane 4) counts for nothing
+    ∷ row (account ((start 0 7 100 100 ∷ steps 0 7) ++ (sweep 0 0 0 1023 1023 ∷ sweeps 0 3) ++ collect 0 768 ∷ start 0 8 200 200 ∷ step 0 ∷ step 0 ∷ sweep 0 0 0 1023 1023 ∷ stepQuery 0 ∷ stepQuery 4 ∷ [])) (0 ∷ 1 ∷ 2 ∷ 0 ∷ 0 ∷ 0 ∷ [])
+    ∷ row (tallied (history ((start 0 7 100 100 ∷ steps 0 7) ++ (sweep 0 0 0 1023 1023 ∷ sweeps 0 3) ++ collect 0 768 ∷ start 0 8 200 200 ∷ step 0 ∷ step 0 ∷ sweep 0 0 0 1023 1023 ∷ stepQuery 0 ∷ stepQuery 4 ∷ []) emptyGrid [])) (20 ∷ 22 ∷ 0 ∷ 0 ∷ [])
+    -- the same rectangle on two decks with different carriers in it: different lists
+    ∷ row (collected ((start 0 7 100 100 ∷ steps 0 7) ++ sweep 0 0 0 1023 1023 ∷ sweeps 0 3)) (0 ∷ 3 ∷ 7 ∷ 100 ∷ 100 ∷ [])
+    ∷ row (collected ((start 0 8 200 200 ∷ steps 0 7) ++ sweep 0 0 0 1023 1023 ∷ sweeps 0 3)) (0 ∷ 3 ∷ 8 ∷ 200 ∷ 200 ∷ [])
     ∷ []
 
 unfoldable pub gives : List Row → List (List ℕ)
@@ -153,5 +182,5 @@ says (r ∷ t) = r .says ∷ says t
 
 -- THE PROOF: every row gives what document 01 says
 pub trials : gives table ≡ says table
-unfolding gives says table stages stageNo corners cornersOn ordered onGrid cellOf pick hash numbersOf sweeps collected steps call run answers emptyGrid emptyTables inside visited next addReader takeReader leaveFor lookFrom enlist note counted afterCell enterFree enterStep leaveLast leaveStep comparable consider readStep scanOn queryStart queryStep idleQueries isFinished isIdleQuery collectQuery entriesFrom seen read seenBy idleUpdaters after updateStart updateStep stepped started stageOn lift unless isIdle hasRoom rightLengths rightCells rightTuples rightIndex rightHits need await andThen atEntry attempt draw look take release search probe after# known insert enterAt empty members height withHeight pool-take pool-give fresh numbersFrom encode decode readPlace putPlace erasePlace shift stampOf needSlot stampRange copy overwrite delete sign signOf firstBucket needSome last lower giveBack push makeRoom write raise hold stage1 stage2 stage3 goBack stage14 stage4 stage5 stage6 stage7 freeCell correct correctMoved rewrite lockNew choose stage8 stage9 stage10 stage11 stage12 stage13
+unfolding gives says table stages stageNo upd account accountBy tallied history deed when underWay among knownOf tally tallyStep queriesOf latest total walk rowsFrom columns rows chainOf bucketsFrom inFront tuplesIn sum bit corners cornersOn ordered onGrid cellOf pick hash numbersOf sweeps collected steps call run answers emptyGrid emptyTables inside visited next addReader takeReader leaveFor lookFrom enlist note counted afterCell enterFree enterStep leaveLast leaveStep comparable consider readStep scanOn queryStart queryStep idleQueries isFinished isIdleQuery collectQuery entriesFrom seen read seenBy idleUpdaters after updateStart updateStep stepped started stageOn lift unless isIdle hasRoom rightLengths rightCells rightTuples rightIndex rightHits need await andThen atEntry attempt draw look take release search probe after# known insert enterAt empty members height withHeight pool-take pool-give fresh numbersFrom encode decode readPlace putPlace erasePlace shift stampOf needSlot stampRange copy overwrite delete sign signOf firstBucket needSome last lower giveBack push makeRoom write raise hold stage1 stage2 stage3 goBack stage14 stage4 stage5 stage6 stage7 freeCell correct correctMoved rewrite lockNew choose stage8 stage9 stage10 stage11 stage12 stage13
 trials = refl

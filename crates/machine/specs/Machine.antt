@@ -303,11 +303,6 @@ unfoldable pub queryStep : ℕ → ℕ → Option ℕ → St → Option Out
 queryStep q c none d = enterAt q c d
 queryStep q c (some b) d = readAt q b (d .queries q .left) d
 
-pub data Call : Type 0 where
-  walk : ℕ → ℕ → Call
-  start : ℕ → ℕ → ℕ → ℕ → Call
-  turn : ℕ → Call
-
 unfoldable pub begin : ℕ → ℕ → ℕ → ℕ → St → Option Out
 begin l k x y d =
     pick (not (ltb l 8)) (some (d, 1))
@@ -317,8 +312,3 @@ begin l k x y d =
     (pick (not (d .known k) && leb 256 (d .size)) (some (d, 7))
     (pick (leb 2147483600 (d .clock)) (some (d, 8))
     (some (withLanes (withSize (withKnown d (upd (d .known) k true)) (pick (d .known k) (d .size) (suc (d .size)))) (upd (d .lanes) l (record { oid = k; x = x; y = y; stage = TakeObject })), 0)))))))
-
-unfoldable pub step : StoreOps → Call → St → Option Out
-step O (start l k x y) d = begin l k x y d
-step O (walk q c) d = pick (not (ltb q 4)) (some (d, 1)) (pick (not (ltb c 256)) (some (d, 1)) (queryStep q c (d .queries q .bucket) d))
-step O (turn l) d = pick (not (ltb l 8)) (some (d, 1)) (doStage O l (d .lanes l) d (d .lanes l .stage))

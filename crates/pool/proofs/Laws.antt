@@ -1,6 +1,6 @@
 -- THE LAWS OF THE POOL, all that the crates above use.
 -- Taking and giving change the list of members by its last number, and everything follows from that equation.
-use mathlib.Core.Path.{_≡_, sym, ap, _∙_}
+use mathlib.Core.Path.{_≡_, refl, sym, ap, _∙_}
 use mathlib.Core.Logic.{_≢_, _⊎_, ⊎-elim}
 use mathlib.Core.List.{List, [], _∷_, _++_}
 use Prim.Native.Nat.{ℕ, suc, _+_, _-_, _<_, _≤_}
@@ -108,6 +108,11 @@ module _ (pool : List ℕ) (t : Took) (e : take pool ≡ done t) where
   unfolding size
   take-size = ap length (take-members pool t e) ∙ length-append (members (t .pool)) (t .bucket ∷ [])
 
+  -- its table keeps its length
+  pub take-length : length (t .pool) ≡ length pool
+  unfolding withHeight
+  take-length = let T = taking pool t e in sym (ap (λ (u : Took). length (u .pool)) (T .is)) ∙ length-set pool 512 (height pool - 1)
+
   pub take-below : t .bucket < 512
   take-below = let T = taking pool t e in rw (← (ap (λ (u : Took). u .bucket) (T .is))) (T .below)
 
@@ -151,6 +156,10 @@ module _ (pool : List ℕ) (b : ℕ) (p : List ℕ) (e : give pool b ≡ done p)
   unfolding size
   give-size = ap length (give-members pool b p e) ∙ length-append (members pool) (b ∷ [])
 
+  pub give-length : length p ≡ length pool
+  unfolding withHeight
+  give-length = let G = giving pool b p e in sym (ap length (G .is)) ∙ length-set (set pool (height pool) b) 512 (height pool + 1) ∙ length-set pool (height pool) b
+
   pub give-sound : Sound pool → (Has pool b → ⊥) → Sound p
   unfolding withHeight Has
   give-sound S n =
@@ -161,6 +170,18 @@ module _ (pool : List ℕ) (b : ℕ) (p : List ℕ) (e : give pool b ≡ done p)
         once = rw (give-members pool b p e) (once-last (members pool) (S .once) n);
         below = λ j i. at-or j b (λ q. omega (arith, G .below)) (λ q. S .below j (give-only j i q));
       }
+
+-- ---- what is in it, as a list: each number once, and nothing else
+
+pub record Content (pool l : List ℕ) : Type 0 where
+  pub once : Once l
+  pub many : size pool ≡ length l
+  pub theirs : (b : ℕ) → In b l → Has pool b × (b < 512)
+  pub all : (b : ℕ) → Has pool b → In b l
+
+pub content : (pool : List ℕ) → Sound pool → (l : List ℕ) × Content pool l
+unfolding Has size
+content pool S = (members pool, record { once = S .once; many = refl; theirs = λ b i. (i, S .below b i); all = λ b i. i })
 
 -- ---- when they succeed
 

@@ -4,12 +4,11 @@ use mathlib.Core.Bool.{Bool, true, false}
 use mathlib.Core.Option.{none}
 use Prim.Native.Nat.{ℕ, zero, suc, _+_, _*_, _<_}
 use native.Mathlib.Omega.{arith}
-use lib.Dec.{ltb}
+use lib.Dec.{T, ltb}
 use lib.IntN.{ℤ, pos, natAbs}
 use lib.ListN.{getD, replicate, length-replicate}
 use Rattle.base.specs.Outcome.{pick}
 use Rattle.base.specs.Table.{at, clash}
-use Rattle.index.specs.Index.{empty}
 use Rattle.index.proofs.Map.{sound-empty, lookup-empty}
 use Rattle.index.proofs.Known.{known-empty}
 use Rattle.pool.specs.Pool.{Has, fresh}
@@ -101,6 +100,7 @@ blank-inv d B pool =
       loose = B .loose;
       reading = record { exact = λ b. rw (B .readers b, B .queries 0, B .queries 1, B .queries 2, B .queries 3); standing = λ q b q< e. let n = B .queries q in clash (cc) };
       placed = record { inside = λ b c h i o lt. clash (cc) };
+      written = record { filled = λ l l< p e. let n = B .lanes l in clash (cc) };
       lanes = record { fine = λ l l< n. absurd (n (B .lanes l)) };
       cells = record { mine = λ l l< t. absurd (rw (B .lanes l) at t); his = λ c l e. absurd (omega (arith, B .cells c)) };
       objs = record { own = λ l l< t. absurd (rw (B .lanes l) at t); mov = λ l l< t. absurd (rw (B .lanes l) at t); his = λ k l e. absurd (omega (arith, B .lock k)) };
@@ -152,3 +152,7 @@ empty-good =
       inv = blank-inv (view emptyGrid) blank fresh-pool;
       asks = λ q q<. rw (all-same 4 q idleQuery) tt;
     }
+
+-- no object is known
+pub empty-unknown : (k : ℕ) → T (view emptyGrid .known k) → ⊥
+empty-unknown k t = rw (blank .known k) at t

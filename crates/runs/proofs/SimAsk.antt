@@ -3,7 +3,7 @@ use mathlib.Core.Path.{_≡_, refl, sym, ap, _∙_}
 use mathlib.Core.Bool.{true}
 use mathlib.Core.Option.{none}
 use mathlib.Core.List.{List}
-use Prim.Native.Nat.{ℕ, _+_, _-_, _<_, _≤_}
+use Prim.Native.Nat.{ℕ, _+_, _<_, _≤_}
 use native.Mathlib.Omega.{arith}
 use lib.Dec.{ltb}
 use lib.ListN.{getD, set, length-set}
@@ -45,6 +45,7 @@ later-clock {d = d} n I le early =
       loose = I .loose;
       reading = I .reading;
       placed = I .placed;
+      written = I .written;
       lanes = I .lanes;
       cells = I .cells;
       objs = I .objs;

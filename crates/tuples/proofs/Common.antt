@@ -13,11 +13,11 @@ use Rattle.layout.specs.declared.place.Place.{Place}
 use Rattle.layout.specs.Place.{cellOf}
 use Rattle.slots.specs.Tuple.{Tuple}
 use Rattle.stage.specs.declared.Stage.{Stage}
-use Rattle.stage.specs.declared.Stage.the-variants.{Idle, ReturnBucket}
+use Rattle.stage.specs.declared.Stage.the-variants.{Idle, ReturnBucket, RaiseCount}
 use Rattle.stage.specs.declared.Updater.{Updater}
 use Rattle.machine.specs.Machine.{Scanner, St, put, to}
 use Rattle.cells.proofs.Chains.{Owner, inChain, unlinked}
-use Rattle.tuples.proofs.Inv.{Pos, Kind, kCur, kPrev, kNew, sel, Slots, Fit, Fits, topOf, Ok, mv, cl, goal, bk, filling, Ghost, OkAt, Lanes, CellLocks, ObjLocks, Filled, Back, draws, Ticks, Young, Placed, Reading}
+use Rattle.tuples.proofs.Inv.{Pos, Kind, kCur, kPrev, kNew, sel, Slots, Fit, Fits, Top, topOf, Ok, celHeld, mv, cl, goal, bk, filling, Ghost, OkAt, Lanes, CellLocks, ObjLocks, Filled, Back, draws, Ticks, Young, Placed, Written, Reading}
 use Rattle.machine.specs.Sums.{sum}
 use Rattle.tuples.proofs.Local.{Local, others}
 use Rattle.tuples.proofs.Slots.{put-same, put-else, slot-or}
@@ -49,6 +49,29 @@ module _ {l : ℕ} {g g′ : Ghost} {d d′ : St} (a′ : Updater) (L : Local l 
   oks K J k m j j< = at-or j l
       (λ q. let e : d′ .lanes j ≡ a′ = rw (lanesEq, q, upd-same (d .lanes) l a′) in rw (e, q) m)
       (λ n. others L K J j j< n (k j j<))
+
+  -- the tuple that another lane has written stays
+  kept-fill : CellLocks (d .cellLock) (d .lanes) → ((j : ℕ) → j < 8 → OkAt j g d) → (j : ℕ) → j < 8 → j ≢ l → (p : Place) → d .lanes j .stage ≡ RaiseCount p → d′ .tup (p .bucket) (p .slot) ≡ d .tup (p .bucket) (p .slot)
+  unfolding Ok cl celHeld mv bk
+  kept-fill K k j j< n p e =
+      let c = goal (d .lanes j) in
+      let w = rw e at (k j j<) in
+      let lock : d .cellLock c ≡ suc j = rw e at (K .mine j j<) tt in
+      let same = L .tops c j n lock in
+      let b : p .bucket ≡ d .first c = ap (λ (z : Place). z .bucket) (w .4) in
+      let i : p .slot ≡ d .count (d .first c) = ap (λ (z : Place). z .slot) (w .4) in
+      let b′ : d .first c ≡ d′ .first c = ap (λ (z : Top). z .bucket) same in
+      let i′ : d .count (d .first c) ≡ d′ .count (d′ .first c) = ap (λ (z : Top). z .n) same in
+      let f : d .tup (d .first c) (d .count (d .first c)) ≡ d′ .tup (d′ .first c) (d′ .count (d′ .first c)) = ap (λ (z : Top). z .fill) same in
+      ap (λ (z : ℕ). d′ .tup z (p .slot)) (b ∙ b′) ∙ ap (d′ .tup (d′ .first c)) (i ∙ i′) ∙ sym f ∙ sym (ap (λ (z : ℕ). d .tup z (p .slot)) b ∙ ap (d .tup (d .first c)) i)
+
+  pub writes : CellLocks (d .cellLock) (d .lanes) → ((j : ℕ) → j < 8 → OkAt j g d) → Written (d .tup) (d .lanes)
+      → ((p : Place) → a′ .stage ≡ RaiseCount p → (d′ .tup (p .bucket) (p .slot) .x ≡ a′ .x) × (d′ .tup (p .bucket) (p .slot) .y ≡ a′ .y)) → Written (d′ .tup) (d′ .lanes)
+  writes K k W m = record {
+    filled = λ j j< p. at-or j l
+        (λ q. let e : d′ .lanes j ≡ a′ = rw (lanesEq, q, upd-same (d .lanes) l a′) in rw e (m p))
+        (λ n. rw (L .lanes j n) (λ e. rw (kept-fill K k j j< n p e) (W .filled j j< p e)));
+  }
 
 -- ---- where and when
 pub timed : (z : ℤ) → T (stands z) → 0 < natAbs z

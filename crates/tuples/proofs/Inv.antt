@@ -17,7 +17,7 @@ use Rattle.stage.specs.declared.Stage.{Stage}
 use Rattle.stage.specs.declared.Stage.the-variants.{Idle, TakeObject, LockCell, LookLast, CopyLast, LowerCount, ReturnBucket, ErasePlace, ChooseCell, MakeRoom, WriteTuple, RaiseCount, SwitchPlace, DeleteOld, ReleaseObject}
 use Rattle.stage.specs.declared.Updater.{Updater}
 use Rattle.machine.specs.Machine.{Entry, Scanner, St}
-use Rattle.cells.proofs.Chains.{Owner, inPool, inChain, unlinked, Links, Full, Held, Loose}
+use Rattle.cells.proofs.Chains.{Owner, inChain, unlinked, Links, Full, Held, Loose}
 
 -- ---- the pool, in the words of the chains' owners
 pub record Stored {O : StoreOps} (S : Store O) (own : ℕ → Owner) (pool : List ℕ) : Type 0 where
@@ -337,6 +337,10 @@ pub record Young (tup : ℕ → ℕ → Tuple) (known : ℕ → Bool) (clock : �
 pub record Placed (own : ℕ → Owner) (count : ℕ → ℕ) (tup : ℕ → ℕ → Tuple) : Type 0 where
   pub inside : (b c h i : ℕ) → own b ≡ inChain c h → i < count b → (cellOf (tup b i .x) (tup b i .y) ≡ c) × (0 < natAbs (tup b i .time))
 
+-- the tuple that stage 10 wrote, not yet counted, is at the reported place
+pub record Written (tup : ℕ → ℕ → Tuple) (lanes : ℕ → Updater) : Type 0 where
+  pub filled : (l : ℕ) → l < 8 → (p : Place) → lanes l .stage ≡ RaiseCount p → (tup (p .bucket) (p .slot) .x ≡ lanes l .x) × (tup (p .bucket) (p .slot) .y ≡ lanes l .y)
+
 -- the clock has room for every draw to come
 pub record Ticks (clock : ℕ) (lanes : ℕ → Updater) : Type 0 where
   pub left : clock + sum 8 (λ l. draws (lanes l .stage)) ≤ 2147483616
@@ -362,6 +366,7 @@ pub record Inv {O : StoreOps} (S : Store O) (g : Ghost) (d : St) : Type 0 where
   pub loose : Loose (g .own) (d .next) (d .count)
   pub reading : Reading (g .own) (d .tup) (d .readers) (d .queries)
   pub placed : Placed (g .own) (d .count) (d .tup)
+  pub written : Written (d .tup) (d .lanes)
   pub lanes : Lanes (d .known) (d .lanes)
   pub cells : CellLocks (d .cellLock) (d .lanes)
   pub objs : ObjLocks (d .lock) (d .lanes)

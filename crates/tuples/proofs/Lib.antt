@@ -1,4 +1,5 @@
 pub mod Ahead
+pub mod Cells
 pub mod Common
 pub mod Dry
 pub mod Effect
@@ -9,6 +10,7 @@ pub mod Local
 pub mod Locks
 pub mod Main
 pub mod Moves
+pub mod Near
 pub mod Pooled
 pub mod Rest
 pub mod Slots

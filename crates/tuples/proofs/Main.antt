@@ -1,4 +1,4 @@
--- Start; the fresh deck; every list of calls; what follows.
+-- The start of an update and every stage: the invariant is kept, and none is refused with 12. Ranges that follow from the invariant.
 use mathlib.Core.Path.{_≡_, refl, sym, ap, _∙_}
 use mathlib.Core.Logic.{_≢_, inl, inr, ⊎-elim}
 use mathlib.Core.Bool.{Bool, true, false, not, _&&_}
@@ -15,13 +15,13 @@ use Rattle.stage.specs.declared.Stage.{Stage}
 use Rattle.stage.specs.declared.Stage.the-variants.{Idle, TakeObject, LockCell, LookLast, CopyLast, LowerCount, ReturnBucket, ErasePlace, ChooseCell, MakeRoom, WriteTuple, RaiseCount, SwitchPlace, DeleteOld, ReleaseObject}
 use Rattle.stage.specs.declared.Updater.{Updater}
 use Rattle.stage.specs.Turn.{isIdle}
-use Rattle.machine.specs.Machine.{St, Out, withLanes, withKnown, withSize, Call, start, turn, walk, begin, step, doStage}
+use Rattle.machine.specs.Machine.{St, Out, withLanes, withKnown, withSize, begin, doStage}
 use Rattle.cells.proofs.Chains.{inPool}
 use Rattle.tuples.proofs.Inv.{Kind, kCur, kPrev, kNew, kDup, sel, mk, Ok, ownHeld, movHeld, celHeld, mv, cl, goal, bk, filling, Ghost, Ranked, draws, Inv, stands-in}
 use Rattle.tuples.proofs.Slots.{learn}
 use Rattle.tuples.proofs.Local.{Local}
 use Rattle.tuples.proofs.Locks.{still, cells-step, objs-step}
-use Rattle.tuples.proofs.Common.{oks}
+use Rattle.tuples.proofs.Common.{oks, writes}
 use Rattle.tuples.proofs.Facts.{cell-his, obj-his}
 use Rattle.machine.specs.Sums.{sum, bit, bit-le, sum-le, sum-const}
 use Rattle.tuples.proofs.Stage4.{keeps4}
@@ -31,11 +31,11 @@ use Rattle.tuples.proofs.Stage8.{keeps8, keeps13}
 use Rattle.tuples.proofs.Stage9.{keeps9}
 use Rattle.tuples.proofs.Stage10.{keeps10, keeps11}
 use Rattle.tuples.proofs.Stage12.{keeps12}
-use Rattle.tuples.proofs.Walk.{keeps-walk}
 use Rattle.tuples.proofs.Dry.{one-free}
+use Rattle.tuples.proofs.Effect.{Effect, same-tables}
 use Rattle.tuples.proofs.Rest.{keeps1, keeps2, keeps3, keeps6, keeps14}
 
-is-idle : (s : Stage) → T (isIdle s) → s ≡ Idle
+pub is-idle : (s : Stage) → T (isIdle s) → s ≡ Idle
 unfolding isIdle
 is-idle Idle t = refl
 is-idle TakeObject t = absurd t
@@ -131,6 +131,7 @@ module _ {O : StoreOps} {S : Store O} {g : Ghost} {d : St} (I : Inv S g d) (l : 
         fits = I .fits;
         free = I .free;
         ok = oks a L refl (I .cells) (I .objs) (I .ok) tt;
+        written = writes a L refl (I .cells) (I .ok) (I .written) (λ q z. clash (cc));
         ticks = record { left = omega (arith, draws-16 (upd (d .lanes) l a)) };
         young = record { young = I .young .young; heard = λ b i h. more _ (I .young .heard b i h) };
         placed = I .placed;
@@ -163,21 +164,22 @@ weaken : {P : Out → Type 0} {R R′ : Type 0} (o : Option Out) → (R → R′
 weaken _ f (done x) = done x
 weaken _ f (refused r) = refused (f r)
 
--- ---- every call: the invariant is kept, and none is refused with 12
+-- ---- every stage and every start: the invariant is kept, and none is refused with 12
 module _ {O : StoreOps} (S : Store O) where
-  abbrev pub Kept : Option Out → Type 0
-  Kept o = Ends (λ (r : Out). (g′ : Ghost) × Inv S g′ (r .0)) ⊥ o
+  -- kept, with what the step does to the places of objects
+  abbrev pub Changed : ℕ → Ghost → St → Option Out → Type 0
+  Changed l g d o = Ends (λ (r : Out). (g′ : Ghost) × Inv S g′ (r .0) × Effect l g d g′ (r .0)) ⊥ o
 
   module _ (g : Ghost) (d : St) (I : Inv S g d) where
-    keeps-begin : (l k x y : ℕ) → Kept (begin l k x y d)
+    pub keeps-begin : (l k x y : ℕ) → Ends (λ (r : Out). Inv S g (r .0)) ⊥ (begin l k x y d)
     unfolding begin
-    keeps-begin l k x y = ends-pick _ _ _ (λ _. done (g, I)) (λ t₁. ends-pick _ _ _ (λ _. done (g, I)) (λ t₂. ends-pick _ _ _ (λ _. done (g, I)) (λ _. ends-pick _ _ _ (λ _. done (g, I))
-        (λ t₃. ends-pick _ _ _ (λ _. done (g, I)) (λ t₄. ends-pick _ _ _ (λ _. done (g, I)) (λ t₅. let u = T-and-split (ltb x 16384) (ltb y 16384) (T-stable (ltb x 16384 && ltb y 16384) t₃) in
-        done (g, begun I l (ltb→lt _ _ (T-stable (ltb l 8) t₁)) (is-idle _ (T-stable (isIdle (d .lanes l .stage)) t₂)) k x y (ltb→lt _ _ (u .0)) (ltb→lt _ _ (u .1)) t₄ (nleb→lt _ _ t₅))))))))
+    keeps-begin l k x y = ends-pick _ _ _ (λ _. done I) (λ t₁. ends-pick _ _ _ (λ _. done I) (λ t₂. ends-pick _ _ _ (λ _. done I) (λ _. ends-pick _ _ _ (λ _. done I)
+        (λ t₃. ends-pick _ _ _ (λ _. done I) (λ t₄. ends-pick _ _ _ (λ _. done I) (λ t₅. let u = T-and-split (ltb x 16384) (ltb y 16384) (T-stable (ltb x 16384 && ltb y 16384) t₃) in
+        done (begun I l (ltb→lt _ _ (T-stable (ltb l 8) t₁)) (is-idle _ (T-stable (isIdle (d .lanes l .stage)) t₂)) k x y (ltb→lt _ _ (u .0)) (ltb→lt _ _ (u .1)) t₄ (nleb→lt _ _ t₅))))))))
 
-    pub by-stage : (l : ℕ) → l < 8 → (s : Stage) → d .lanes l .stage ≡ s → Kept (doStage O l (d .lanes l) d s)
+    pub by-stage : (l : ℕ) → l < 8 → (s : Stage) → d .lanes l .stage ≡ s → Changed l g d (doStage O l (d .lanes l) d s)
     unfolding doStage
-    by-stage l l< Idle st = done (g, I)
+    by-stage l l< Idle st = done (g, I, same-tables l g d d (λ _. refl) (λ _. refl) (λ _ _. refl))
     by-stage l l< TakeObject st = (keeps1 I l l< st)
     by-stage l l< (LockCell p) st = (keeps2 I l l< p st)
     by-stage l l< (LookLast p) st = (keeps3 I l l< p st)
@@ -192,12 +194,6 @@ module _ {O : StoreOps} (S : Store O) where
     by-stage l l< (SwitchPlace p) st = (keeps12 I l l< p st)
     by-stage l l< (DeleteOld p) st = (keeps13 I l l< p st)
     by-stage l l< ReleaseObject st = (keeps14 I l l< st)
-
-    pub keeps : (q : Call) → Kept (step O q d)
-    unfolding step
-    keeps (start l k x y) = keeps-begin l k x y
-    keeps (walk q c) = ends-pick _ _ _ (λ _. done (g, I)) (λ t. ends-pick _ _ _ (λ _. done (g, I)) (λ t₂. keeps-walk I q (ltb→lt _ _ (T-stable (ltb q 4) t)) c (ltb→lt _ _ (T-stable (ltb c 256) t₂))))
-    keeps (turn l) = ends-pick _ _ _ (λ _. done (g, I)) (λ t. by-stage l (ltb→lt _ _ (T-stable (ltb l 8) t)) _ refl)
 
 -- ---- nothing is under way
 

@@ -5,7 +5,7 @@ use mathlib.Core.Bool.{false}
 use mathlib.Core.Option.{none, some}
 use Prim.Native.Nat.{ℕ, suc, _<_}
 use native.Mathlib.Omega.{arith}
-use lib.Dec.{T, lt→ltb, ltb}
+use lib.Dec.{T, lt→ltb}
 use Rattle.base.specs.Table.{upd, upd-same, upd-other, at-or, clash}
 use Rattle.machine.specs.Ends.{Ends, done, ends-must}
 use Rattle.machine.specs.Store.{StoreOps, Store}
@@ -19,14 +19,14 @@ use Rattle.cells.proofs.Chains.{inChain}
 use Rattle.tuples.proofs.Inv.{Pos, Kind, kCur, kPrev, kNew, kDup, sel, mk, pl, plain, Fit, Outside, Ok, ownHeld, movHeld, celHeld, mv, cl, goal, bk, filling, Ghost, draws, Inv}
 use Rattle.tuples.proofs.Slots.{Lose, put-same, put-else, slot-or, retup, add}
 use Rattle.tuples.proofs.Local.{Local, freed}
-use Rattle.tuples.proofs.Common.{fit-same, fits-upd, oks, lanes-step, filled-step, back-quiet, ticks-step, timed, young-put, placed-same, reading-step, written-put}
+use Rattle.tuples.proofs.Common.{fit-same, fits-upd, oks, writes, lanes-step, filled-step, back-quiet, ticks-step, timed, young-put, placed-same, reading-step, written-put}
 use Rattle.tuples.proofs.Facts.{cell-locked, tall-first, first-not, at-stage, own-locked, other-cell, lane-known}
 use Rattle.tuples.proofs.Moves.{cells-keep, objs-keep, loose-apart}
 use Rattle.cells.proofs.Counts.{full-count, loose-count}
 use Rattle.tuples.proofs.Stage8.{stands-suc, clock<}
 use Rattle.tuples.proofs.Fresh.{aim}
 use Rattle.machine.specs.History.{spotOf}
-use Rattle.tuples.proofs.Effect.{Effect, Source, written, says-eq, goes-same, main-or, forget, puts, told-stands, met-count}
+use Rattle.tuples.proofs.Effect.{Effect, Source, written, says-eq, goes-same, main-or, puts, told-stands, met-count}
 
 module _ {O : StoreOps} {S : Store O} {g : Ghost} {d : St} (I : Inv S g d) (l : ℕ) (l< : l < 8) where
   abbrev k : ℕ
@@ -79,6 +79,7 @@ module _ {O : StoreOps} {S : Store O} {g : Ghost} {d : St} (I : Inv S g d) (l : 
           free = freed L (λ j z z′. z′) (λ j z z′. absurd (omega arith)) (I .free);
           ok = oks (to (d .lanes l) (RaiseCount (pl c f n))) L refl (I .cells) (I .objs) (I .ok)
               (gk, out, f<, n<, refl, rw (put-same (d .tup) f n v), rw (put-same (d .tup) f n v) (stands-suc (d .clock)), rw (put-same (d .tup) f n v));
+          written = writes (to (d .lanes l) (RaiseCount (pl c f n))) L refl (I .cells) (I .ok) (I .written) (λ q z. let y : pl c f n ≡ q = cc in rw (← y, put-same (d .tup) f n v) (refl, refl));
           ranks = I .ranks;
           loose = I .loose;
           reading = reading-step (λ b q c h₁ _ _ o. o) (written-put (d .tup) f n v (omega arith)) (I .reading);
@@ -92,18 +93,15 @@ module _ {O : StoreOps} {S : Store O} {g : Ghost} {d : St} (I : Inv S g d) (l : 
           back = back-quiet (RaiseCount (pl c f n)) l< (λ p′ m′ b′ z. clash (cc)) (I .back);
         }
 
-    pub keeps10c : Ends (λ (r : Out). (g′ : Ghost) × Inv S g′ (r .0) × Effect l g d g′ (r .0)) ⊥ (stage10 l (d .lanes l) d)
+    pub keeps10 : Ends (λ (r : Out). (g′ : Ghost) × Inv S g′ (r .0) × Effect l g d g′ (r .0)) ⊥ (stage10 l (d .lanes l) d)
     unfolding stage10 Ok mv cl bk
-    keeps10c =
+    keeps10 =
         let w = at-stage I l l< WriteTuple st in
         ends-must _ _ (lt→ltb _ _ (w .2)) (ends-must _ _ (lt→ltb _ _ (w .3)) (ends-must _ _ (clock< I) (done (
           g,
           inv10 (w .0) (w .1) (w .2) (w .3),
           puts l g d after (g .gh) f n v (λ j κ mn r z. z) (λ _. refl) (λ _. refl) (λ _ _. refl) (λ s le. told-stands s _ (stands-suc (d .clock))) (λ q₁. written refl refl),
         ))))
-
-    pub keeps10 : Ends (λ (r : Out). (g′ : Ghost) × Inv S g′ (r .0)) ⊥ (stage10 l (d .lanes l) d)
-    keeps10 = forget (λ g′ d′. Inv S g′ d′) (λ g′ d′. Effect l g d g′ d′) _ keeps10c
 
   module _ (p : Place) (st : d .lanes l .stage ≡ RaiseCount p) where
     abbrev g′ : Pos
@@ -170,6 +168,7 @@ module _ {O : StoreOps} {S : Store O} {g : Ghost} {d : St} (I : Inv S g d) (l : 
             });
             free = freed L (λ j z z′. z′) (λ j z z′. absurd (omega arith)) (I .free);
             ok = oks (to (d .lanes l) (SwitchPlace p)) L refl (I .cells) (I .objs) (I .ok) (upd-same (g .gh) k g′, out, pc);
+            written = writes (to (d .lanes l) (SwitchPlace p)) L refl (I .cells) (I .ok) (I .written) (λ q z. clash (cc));
             ranks = I .ranks;
             loose = loose-count (p .bucket) (suc (d .count (p .bucket))) (λ b l′ c′ h′ o. loose-apart I l l< (RaiseCount p) st tt (λ p′ m′ b′ e. clash (cc)) b l′ c′ h′ (p .bucket) (H .h) o (rw bf (H .owned))) (I .loose);
             reading = I .reading;
@@ -209,7 +208,7 @@ module _ {O : StoreOps} {S : Store O} {g : Ghost} {d : St} (I : Inv S g d) (l : 
               (λ y. let z : g .gh k .cur ≡ some r = rw (x, y) at e in let z′ : d .ent k .cur ≡ some r = rw gk at z in rw y z′)
               (λ y. let z : g .gh k .prev ≡ some r = rw (x, y) at e in let z′ : d .ent k .prev ≡ some r = rw gk at z in clash (cc))))
               (λ x. rw (upd-other (g .gh) k g′ j x) e)) o (λ s _ t. t));
-          met = λ q b i q< M. slot-or (p .bucket) (p .slot) b i
+          met = λ q b i M. slot-or (p .bucket) (p .slot) b i
               (λ e₁ e₂. rw (e₁, e₂) (written mine sp))
               (λ ne. Source.old b i (met-count (λ c h o lt. (
                 o,
@@ -217,6 +216,14 @@ module _ {O : StoreOps} {S : Store O} {g : Ghost} {d : St} (I : Inv S g d) (l : 
                     (λ e. let lt′ : i < suc (d .count (p .bucket)) = rw (e, upd-same (d .count) (p .bucket) (suc (d .count (p .bucket)))) at lt in let nn = ne e in rw e (omega arith))
                     (λ e. rw (upd-other (d .count) (p .bucket) (suc (d .count (p .bucket))) b e) at lt),
               )) M) (says-eq refl));
+          lives = λ b c h i o lt. slot-or (p .bucket) (p .slot) b i
+              (λ e₁ e₂. inr (p, st, sym e₁, sym e₂))
+              (λ ne. inl (
+                o,
+                at-or b (p .bucket)
+                    (λ e. let lt′ : i < suc (d .count (p .bucket)) = rw (e, upd-same (d .count) (p .bucket) (suc (d .count (p .bucket)))) at lt in let nn = ne e in rw e (omega arith))
+                    (λ e. rw (upd-other (d .count) (p .bucket) (suc (d .count (p .bucket))) b e) at lt),
+              ));
         }
 
     -- the cell is locked, so it is in range
@@ -224,19 +231,12 @@ module _ {O : StoreOps} {S : Store O} {g : Ghost} {d : St} (I : Inv S g d) (l : 
     unfolding cl celHeld
     goal< = I .cells .his _ l (cell-locked I l l< (RaiseCount p) st tt) .3
 
-    pub keeps11c : spotOf (d .tup (p .bucket) (p .slot)) ≡ aim (d .lanes l) → Ends (λ (r : Out). (g′ : Ghost) × Inv S g′ (r .0) × Effect l g d g′ (r .0)) ⊥ (stage11 l (d .lanes l) p d)
+    pub keeps11 : Ends (λ (r : Out). (g′ : Ghost) × Inv S g′ (r .0) × Effect l g d g′ (r .0)) ⊥ (stage11 l (d .lanes l) p d)
     unfolding stage11 Ok mv cl bk
-    keeps11c sp =
+    keeps11 =
+        let sp : spotOf (d .tup (p .bucket) (p .slot)) ≡ aim (d .lanes l) = let x = I .written .filled l l< p st in rw (x .0, x .1) in
         let w = at-stage I l l< (RaiseCount p) st in
         let e : p .bucket ≡ f = ap (λ (z : Place). z .bucket) (w .4) in
         let e₂ : p .slot ≡ n = ap (λ (z : Place). z .slot) (w .4) in
         let lt : d .count (p .bucket) < 4 = rw e (w .3) in
         ends-must _ _ (lt→ltb _ _ lt) (done (gg, inv11 (w .0) (w .1) (w .2) (w .3) (w .4) (w .5) (w .6) (w .7) goal<, effect11 (rw (e, e₂) (w .5)) sp (w .0) (w .1 .noPrev) (rw (e, e₂))))
-
-    pub keeps11 : Ends (λ (r : Out). (g′ : Ghost) × Inv S g′ (r .0)) ⊥ (stage11 l (d .lanes l) p d)
-    unfolding stage11 Ok mv cl bk
-    keeps11 =
-        let w = at-stage I l l< (RaiseCount p) st in
-        let e : p .bucket ≡ f = ap (λ (z : Place). z .bucket) (w .4) in
-        let lt : d .count (p .bucket) < 4 = rw e (w .3) in
-        ends-must _ _ (lt→ltb _ _ lt) (done (gg, inv11 (w .0) (w .1) (w .2) (w .3) (w .4) (w .5) (w .6) (w .7) goal<))

@@ -18,11 +18,11 @@ use Rattle.tuples.proofs.Inv.{Pos, Kind, kCur, kPrev, kNew, kDup, sel, 
 use Rattle.tuples.proofs.Slots.{Lose, put-same, put-else, slot-or, same-place, retup, rename, recolor}
 use Rattle.tuples.proofs.Local.{Local, freed}
 use Rattle.tuples.proofs.Locks.{still, cells-step, objs-step}
-use Rattle.tuples.proofs.Common.{fit-same, fits-upd, fit-put, oks, lanes-step, filled-quiet, back-quiet, ticks-step, young-put, placed-put, reading-step, written-put}
+use Rattle.tuples.proofs.Common.{fit-same, fits-upd, fit-put, oks, writes, lanes-step, filled-quiet, back-quiet, ticks-step, young-put, placed-put, reading-step, written-put}
 use Rattle.tuples.proofs.Facts.{T-and, put-self, two-kinds, curDup, curDup-eq, prevDup, prevDup-eq, Tall, tall-of, first-not, at-stage, cell-locked, own-locked, mov-locked, some-tuple, other-cell, cell-his, obj-his}
 use Rattle.tuples.proofs.Fresh.{live, main}
 use Rattle.tuples.proofs.Ahead.{NotSooner, same-bucket, below, Goes}
-use Rattle.tuples.proofs.Effect.{Effect, Erased, old, says-eq, goes-same, told-eq, main-or, forget}
+use Rattle.tuples.proofs.Effect.{Effect, Erased, old, says-eq, goes-same, told-eq, main-or}
 
 module _ {O : StoreOps} {S : Store O} {g : Ghost} {d : St} (I : Inv S g d) (l : ℕ) (l< : l < 8) (p : Place) (m : ℕ) (st : d .lanes l .stage ≡ CopyLast p m) where
   abbrev k : ℕ
@@ -110,6 +110,7 @@ module _ {O : StoreOps} {S : Store O} {g : Ghost} {d : St} (I : Inv S g d) (l : 
         fits = ft;
         free = freed L (λ j e z. z) (λ j e z. absurd (omega arith)) (I .free);
         ok = oks (to (d .lanes l) (LowerCount p m)) L refl (I .cells) (I .objs) (I .ok) low;
+        written = writes (to (d .lanes l) (LowerCount p m)) L refl (I .cells) (I .ok) (I .written) (λ q z. clash (cc));
         ranks = I .ranks;
         loose = I .loose;
         reading = reading-step (λ b q c h₁ _ _ o. o) (written-put (d .tup) (p .bucket) (p .slot) (d .tup f (n - 1)) (I .placed .inside f (p .cell) (h .tall .h) (n - 1) (h .tall .owned) (omega (arith, h .n>)) .1)) (I .reading);
@@ -137,9 +138,10 @@ module _ {O : StoreOps} {S : Store O} {g : Ghost} {d : St} (I : Inv S g d) (l : 
         queries = λ q. refl;
         steady = λ q q< b c h₁ e o. o;
         goes = gs;
-        met = λ q₁ b i q< M. slot-or (p .bucket) (p .slot) b i
+        met = λ q₁ b i M. slot-or (p .bucket) (p .slot) b i
             (λ e₁ e₂. old f (n - 1) (live (p .cell) (h .tall .h) (h .tall .owned) (omega (arith, h .n>))) (says-eq (rw (e₁, e₂) (put-same (d .tup) (p .bucket) (p .slot) (d .tup f (n - 1))))))
             (λ ne. old b i M (says-eq (put-else (d .tup) (p .bucket) (p .slot) (d .tup f (n - 1)) b i ne)));
+        lives = λ b c h₁ i o lt. inl (o, lt);
       }
 
   -- the previous one of the update's own object is erased
@@ -341,12 +343,9 @@ module _ {O : StoreOps} {S : Store O} {g : Ghost} {d : St} (I : Inv S g d) (l : 
               (λ y. others-go g₃ j κ mn r h₁ x o y)),
         ))
 
-  pub keeps4c : Ends (λ (r : Out). (g′ : Ghost) × Inv S g′ (r .0) × Effect l g d g′ (r .0)) ⊥ (stage4 l (d .lanes l) p m d)
+  pub keeps4 : Ends (λ (r : Out). (g′ : Ghost) × Inv S g′ (r .0) × Effect l g d g′ (r .0)) ⊥ (stage4 l (d .lanes l) p m d)
   unfolding stage4
-  keeps4c =
+  keeps4 =
       let h = has in
       ends-must _ _ (lt→ltb _ _ (h .tall .f<)) (ends-must _ _ (T-and (ltb 0 n) (leb n 4) (lt→ltb _ _ (h .n>)) (le→leb _ _ (h .tall .most)))
       (done (at-or m k (own-case h) (other-case h))))
-
-  pub keeps4 : Ends (λ (r : Out). (g′ : Ghost) × Inv S g′ (r .0)) ⊥ (stage4 l (d .lanes l) p m d)
-  keeps4 = forget (λ g′ d′. Inv S g′ d′) (λ g′ d′. Effect l g d g′ d′) _ keeps4c

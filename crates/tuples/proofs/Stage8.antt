@@ -20,12 +20,12 @@ use Rattle.machine.specs.Machine.{St, Out, put, to, inCell, putLane, withCellLo
 use Rattle.tuples.proofs.Inv.{kCur, kPrev, sel, mk, plain, Lives, Fit, topOf, Outside, Ok, ownHeld, movHeld, celHeld, mv, cl, goal, bk, filling, Ghost, draws, Inv}
 use Rattle.tuples.proofs.Slots.{put-same, put-else, slot-or, same-place, retup, rename}
 use Rattle.tuples.proofs.Local.{Local, freed}
-use Rattle.tuples.proofs.Common.{fit-put, oks, lanes-step, filled-quiet, back-quiet, ticks-step, young-put, placed-put, reading-step, written-put}
+use Rattle.tuples.proofs.Common.{fit-put, oks, writes, lanes-step, filled-quiet, back-quiet, ticks-step, young-put, placed-put, reading-step, written-put}
 use Rattle.tuples.proofs.Facts.{ends-fork, stay, stay-eq, at-stage, own-locked}
 use Rattle.tuples.proofs.Moves.{cells-keep, cells-take, objs-keep}
 use Rattle.tuples.proofs.Fresh.{Met, live, left}
 use Rattle.machine.specs.History.{told}
-use Rattle.tuples.proofs.Effect.{Effect, old, written, main-or, forget, quiet, puts, told-stands, told-flag}
+use Rattle.tuples.proofs.Effect.{Effect, old, written, main-or, quiet, puts, told-stands, told-flag}
 
 module _ {O : StoreOps} {S : Store O} {g : Ghost} {d : St} (I : Inv S g d) (q : Place) (v : Tuple) (live : Lives (g .own) (d .count) q) (same : v .oid ≡ d .tup (q .bucket) (q .slot) .oid) where
   abbrev tup′ : ℕ → ℕ → Tuple
@@ -74,9 +74,9 @@ module _ {O : StoreOps} {S : Store O} {g : Ghost} {d : St} (I : Inv S g d) (l : 
   k = d .lanes l .oid
 
   module _ (q : Place) (st : d .lanes l .stage ≡ DeleteOld q) where
-    pub keeps13c : Ends (λ (r : Out). (g′ : Ghost) × Inv S g′ (r .0) × Effect l g d g′ (r .0)) ⊥ (stage13 l (d .lanes l) q d)
+    pub keeps13 : Ends (λ (r : Out). (g′ : Ghost) × Inv S g′ (r .0) × Effect l g d g′ (r .0)) ⊥ (stage13 l (d .lanes l) q d)
     unfolding stage13 Ok mv cl bk sel celHeld ownHeld movHeld filling draws
-    keeps13c =
+    keeps13 =
         let w = at-stage I l l< (DeleteOld q) st in
         let g₁ = plain (d .ent k) in
         let v = flagged (d .tup (q .bucket) (q .slot)) (d .clock) in
@@ -113,6 +113,7 @@ module _ {O : StoreOps} {S : Store O} {g : Ghost} {d : St} (I : Inv S g d) (l : 
           };
           free = freed L (λ j z z′. z′) (λ j z z′. absurd (omega arith)) (I .free);
           ok = oks (to (d .lanes l) ReleaseObject) L refl (I .cells) (I .objs) (I .ok) (upd-same (g .gh) k g₁);
+          written = writes (to (d .lanes l) ReleaseObject) L refl (I .cells) (I .ok) (I .written) (λ q z. clash (cc));
           ranks = I .ranks;
           loose = I .loose;
           reading = reading-step (λ b q c h₁ _ _ o. o) (written-put (d .tup) (q .bucket) (q .slot) v (omega arith)) (I .reading);
@@ -137,9 +138,6 @@ module _ {O : StoreOps} {S : Store O} {g : Ghost} {d : St} (I : Inv S g d) (l : 
               (λ s le. told-flag s (d .clock) le)
               (λ q₁. old (q .bucket) (q .slot) (Met.live (q .cell) (t .0 .h) (t .0 .owned) (t .0 .low)) (record { oid = refl; spot = refl; told = λ s _. told-stands s _ sp })),
         ))
-
-    pub keeps13 : Ends (λ (r : Out). (g′ : Ghost) × Inv S g′ (r .0)) ⊥ (stage13 l (d .lanes l) q d)
-    keeps13 = forget (λ g′ d′. Inv S g′ d′) (λ g′ d′. Effect l g d g′ d′) _ keeps13c
 
   module _ (st : d .lanes l .stage ≡ ChooseCell) where
     abbrev c : ℕ
@@ -179,6 +177,7 @@ module _ {O : StoreOps} {S : Store O} {g : Ghost} {d : St} (I : Inv S g d) (l : 
           };
           free = freed L (λ j z z′. z′) (λ j z z′. absurd (omega arith)) (I .free);
           ok = oks (to (d .lanes l) ReleaseObject) L refl (I .cells) (I .objs) (I .ok) gk;
+          written = writes (to (d .lanes l) ReleaseObject) L refl (I .cells) (I .ok) (I .written) (λ q z. clash (cc));
           ranks = I .ranks;
           loose = I .loose;
           reading = reading-step (λ b q c h₁ _ _ o. o) (written-put (d .tup) (p .bucket) (p .slot) v (omega arith)) (I .reading);
@@ -206,6 +205,7 @@ module _ {O : StoreOps} {S : Store O} {g : Ghost} {d : St} (I : Inv S g d) (l : 
           fits = I .fits;
           free = freed L (λ j z z′. z′) (λ j z z′. absurd (omega arith)) (I .free);
           ok = oks (to (d .lanes l) MakeRoom) L refl (I .cells) (I .objs) (I .ok) (gk, out);
+          written = writes (to (d .lanes l) MakeRoom) L refl (I .cells) (I .ok) (I .written) (λ q z. clash (cc));
           ranks = I .ranks;
           loose = I .loose;
           reading = I .reading;
@@ -226,9 +226,9 @@ module _ {O : StoreOps} {S : Store O} {g : Ghost} {d : St} (I : Inv S g d) (l : 
     unfolding sel
     own-cur gk p e = rw gk e
 
-    pub keeps8c : Ends (λ (r : Out). (g′ : Ghost) × Inv S g′ (r .0) × Effect l g d g′ (r .0)) ⊥ (stage8 l (d .lanes l) d)
+    pub keeps8 : Ends (λ (r : Out). (g′ : Ghost) × Inv S g′ (r .0) × Effect l g d g′ (r .0)) ⊥ (stage8 l (d .lanes l) d)
     unfolding stage8 Ok mv cl bk
-    keeps8c =
+    keeps8 =
         let w = at-stage I l l< ChooseCell st in
         let u = I .lanes .fine l l< (λ z. clash (cc)) in
         ends-must _ _ (u .0) (ends-fork _ _ _
@@ -241,6 +241,3 @@ module _ {O : StoreOps} {S : Store O} {g : Ghost} {d : St} (I : Inv S g d) (l : 
         (λ e. ends-must _ _ (lt→ltb _ _ (cell< _ _ (u .1) (u .2))) (ends-pick _ _ _
         (λ t. done (g, far (cell< _ _ (u .1) (u .2)) (eqb→eq _ _ t) (w .0) (record { noPrev = w .1; out = inCell-no _ _ e }), quiet l g d _ (g .gh) (λ j κ mn r z. z) (λ _. refl) (λ _. refl) (λ _ _. refl)))
         (λ t. done (g, I, quiet l g d d (g .gh) (λ j κ mn r z. z) (λ _. refl) (λ _. refl) (λ _ _. refl))))))
-
-    pub keeps8 : Ends (λ (r : Out). (g′ : Ghost) × Inv S g′ (r .0)) ⊥ (stage8 l (d .lanes l) d)
-    keeps8 = forget (λ g′ d′. Inv S g′ d′) (λ g′ d′. Effect l g d g′ d′) _ keeps8c

@@ -1,0 +1,31 @@
+-- print_entry prints `entryLine`: its numbers one behind the other. Each call has room, since the digits of a number are few.
+use native.Mathlib.Omega.{arith}
+use Rattle.answers.proofs.Printing.{printed-both, printed-as, closed-32, entry-parts}
+use borrow.Author.Needs.{needs}
+use Rattle.answers.proofs.lines.print_entry.Statement.{statement}
+use Rattle.answers.proofs.lines.print_entry.Tie as tie
+
+print-closed-requires : tie.Need-print-closed-requires
+print-closed-requires c κs = omega (arith, c .before .before .pre, closed-32 (c .before .before .args .oid) 44 (search needs))
+
+print-closed-requires-2 : tie.Need-print-closed-requires-2
+print-closed-requires-2 c κs = omega (arith, c .before .before .before .before .before .before .pre, closed-32 (c .before .before .before .before .before .before .args .oid) 44 (search needs), closed-32 (c .before .before .before .before .before .before .args .x) 44 (search needs), c .before .before .before .print-closed .ensures .behind, c .before .before .before .print-closed .kept .0)
+
+print-closed-requires-3 : tie.Need-print-closed-requires-3
+print-closed-requires-3 c κs = omega (arith, c .before .before .before .before .before .before .before .before .before .before .pre, closed-32 (c .before .before .before .before .before .before .before .before .before .before .args .oid) 44 (search needs), closed-32 (c .before .before .before .before .before .before .before .before .before .before .args .x) 44 (search needs), closed-32 (c .before .before .before .before .before .before .before .before .before .before .args .y) 10 (search needs), c .before .before .before .before .before .before .before .print-closed .ensures .behind, c .before .before .before .before .before .before .before .print-closed .kept .0, c .before .before .before .print-closed2 .ensures .behind, c .before .before .before .print-closed2 .kept .0)
+
+same-length : tie.Need-same-length
+same-length c = search needs
+
+returns : tie.Need-returns
+returns c = printed-as (entry-parts (c .before .before .before .before .before .before .before .before .before .before .before .before .before .args .oid) (c .before .before .before .before .before .before .before .before .before .before .before .before .before .args .x) (c .before .before .before .before .before .before .before .before .before .before .before .before .before .args .y)) (printed-both (c .before .before .before .before .before .before .before .before .before .before .print-closed .ensures) (printed-both (c .before .before .before .before .before .before .print-closed2 .ensures) (c .before .before .print-closed3 .ensures)))
+
+pub print-entry-spec : {M : Type 1} → statement M
+print-entry-spec =
+    tie.close
+    (tie.spec
+    print-closed-requires
+    print-closed-requires-2
+    print-closed-requires-3
+    same-length
+    returns)

@@ -1,0 +1,4 @@
+pub mod Sizes
+mod Texts
+pub mod Turns
+pub mod Worked

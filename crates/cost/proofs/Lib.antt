@@ -1,0 +1,17 @@
+pub mod Aside
+pub mod Chain
+pub mod Claims
+pub mod Collected
+pub mod Count
+pub mod Lies
+pub mod Live
+pub mod Match
+pub mod Queries
+pub mod Rel
+pub mod Scans
+pub mod Start
+pub mod Started
+pub mod Stepped
+pub mod Theorem
+pub mod Updates
+pub mod Verdict

@@ -1,0 +1,198 @@
+-- DEMAND 3: the cost account of range queries (document 01: the tally), and what is claimed of it for every list of calls.
+-- All of it is read off the calls, their answers and, at a step of a query, the tables of cells, locks and buckets as the step found them; nothing is read off a lane.
+use mathlib.Core.Path.{_≡_}
+use mathlib.Core.Logic.{_≢_}
+use mathlib.Core.Bool.{Bool, true, false, not, _&&_}
+use mathlib.Core.Option.{Option, none, some}
+use mathlib.Core.List.{List, [], _∷_, _++_, map}
+use Prim.Native.Nat.{ℕ, zero, suc, _+_, _-_, _*_, _/_, _≤_}
+use lib.Dec.{eqb, leb}
+use lib.ListN.{length}
+use Rattle.base.specs.Outcome.{pick}
+use Rattle.base.specs.Table.{at, upd}
+use Rattle.layout.specs.Question.{walk}
+use Rattle.layout.specs.declared.question.Question.{Question}
+use Rattle.cells.specs.Walk.{chainOf, tuplesIn}
+use Rattle.machine.specs.Sums.{bit, count}
+use Rattle.grid.specs.Run.{Grid, Call, startUpdate, stepUpdate, startQuery, stepQuery, collect, Answer, call, emptyGrid}
+
+-- ---- WHAT HAPPENED
+-- the tables of cells, locks and buckets: first bucket and lock of each cell, count and next bucket of each bucket
+pub record Seen : Type 0 where
+  pub first : List ℕ
+  pub locks : List ℕ
+  pub count : List ℕ
+  pub next : List ℕ
+
+-- a call, its answer, and those tables as it found them
+pub record Event : Type 0 where
+  pub call : Call
+  pub answer : Answer
+  pub seen : Seen
+
+abbrev pub eventOf : Call → Grid → Event
+eventOf c g = record { call = c; answer = call c g .0; seen = record { first = g .tables .first; locks = g .tables .cells; count = g .tables .count; next = g .tables .next } }
+
+-- what happened when calls were made on a grid, each on the grid as the last one left it; the last call comes first
+unfoldable pub history : List Call → Grid → List Event → List Event
+history [] g past = past
+history (c ∷ cs) g past = history cs (call c g .1) (eventOf c g ∷ past)
+
+-- What an event comes to, if it does: an update begins (lane, object) or ends (lane); a query is asked (lane, question) or goes a step (lane, number), blocked ones too; a list is collected (lane).
+pub record Deed : Type 0 where
+  pub begins : Option (ℕ × ℕ)
+  pub ends : Option ℕ
+  pub asks : Option (ℕ × Question)
+  pub goes : Option (ℕ × ℕ)
+  pub collects : Option ℕ
+
+abbrev pub deedOf : Option (ℕ × ℕ) → Option ℕ → Option (ℕ × Question) → Option (ℕ × ℕ) → Option ℕ → Deed
+deedOf b e a g c = record { begins = b; ends = e; asks = a; goes = g; collects = c }
+
+-- an update ends with the step that gives 22
+abbrev pub accepted : Call → ℕ → Deed
+accepted (startUpdate l k x y) n = deedOf (some (l, k)) none none none none
+accepted (stepUpdate l) n = deedOf none (pick (eqb n 22) (some l) none) none none none
+accepted (startQuery l u) n = deedOf none none (some (l, u)) none none
+accepted (stepQuery l) n = deedOf none none none (some (l, n)) none
+accepted (collect l m) n = deedOf none none none none (some l)
+
+-- a refused call, whose number is from 1 to 13, comes to nothing
+unfoldable pub deed : Event → Deed
+deed e = let n = e .answer .number in pick (leb 1 n && leb n 13) (deedOf none none none none none) (accepted (e .call) n)
+
+-- f of what is there, or else x
+unfoldable pub when : {A B : Type 0} → Option A → (A → B) → B → B
+when none f x = x
+when (some a) f x = f a
+
+-- the object whose update is under way in each lane
+unfoldable pub underWay : List Event → ℕ → Option ℕ
+underWay [] = λ l. none
+underWay (e ∷ past) = let f = underWay past in when (deed e .begins) (λ b. upd f (b .0) (some (b .1))) (when (deed e .ends) (λ l. upd f l none) f)
+
+-- the objects known, each once, from the first accepted start of an update
+unfoldable pub among : ℕ → List ℕ → Bool
+among k [] = false
+among k (j ∷ js) = pick (eqb j k) true (among k js)
+
+unfoldable pub known : List Event → List ℕ
+known [] = []
+known (e ∷ past) = let ks = known past in when (deed e .begins) (λ b. pick (among (b .1) ks) ks (b .1 ∷ ks)) ks
+
+-- ---- THE TALLY of a query lane: the cells still to enter, the rest, the count
+pub record Tally : Type 0 where
+  pub cells : List ℕ
+  pub rest : ℕ
+  pub count : ℕ
+
+abbrev pub tallyOf : List ℕ → ℕ → ℕ → Tally
+tallyOf cs r n = record { cells = cs; rest = r; count = n }
+
+-- what walking the chain of a cell finds: its buckets, and the sum of their counts
+pub record Found : Type 0 where
+  pub cell : ℕ
+  pub buckets : ℕ
+  pub tuples : ℕ
+
+abbrev pub found : Seen → ℕ → Found
+found s c = when (chainOf (s .first) (s .next) c) (λ l. record { cell = c; buckets = length l; tuples = tuplesIn (s .count) l }) (record { cell = c; buckets = 0; tuples = 0 })
+
+-- 22 if no cell and no rest remain, else 0
+abbrev pub ending : List ℕ → ℕ → ℕ
+ending cs r = pick (eqb (length cs + r) 0) 22 0
+
+-- a step: its answer, and the tally after it (with no cell and no rest the query is finished, and a step on it is refused)
+unfoldable pub tallyStep : Seen → List ℕ → ℕ → ℕ → ℕ × Tally
+tallyStep s cs (suc r) n = (ending cs r, tallyOf cs r (suc n))
+tallyStep s [] zero n = (9, tallyOf [] 0 n)
+tallyStep s (c ∷ cs) zero n = let f = found s c in let r = f .buckets + f .tuples in pick (eqb (at (s .locks) c) 0) (ending cs r, tallyOf cs r (suc n)) (20, tallyOf (c ∷ cs) 0 n)
+
+abbrev pub stepOf : Seen → Tally → ℕ × Tally
+stepOf s t = tallyStep s (t .cells) (t .rest) (t .count)
+
+unfoldable pub tally : List Event → ℕ → Tally
+tally [] = λ l. tallyOf [] 0 0
+tally (e ∷ past) = let f = tally past in when (deed e .asks) (λ a. upd f (a .0) (tallyOf (walk (a .1)) 0 0)) (when (deed e .goes) (λ a. upd f (a .0) (stepOf (e .seen) (f (a .0)) .1)) f)
+
+-- ---- THE QUERIES OF A LIST, those collected long ago too. A finished one stays as it was when it finished.
+-- steps: accepted and not blocked; finished: one gave 22; entered: its cells, the last one first, with what was found there at the step that entered them;
+-- updates: of each object, how many were under way at some time of it; objects: those known
+pub record Sweep : Type 0 where
+  pub lane : ℕ
+  pub question : Question
+  pub steps : ℕ
+  pub finished : Bool
+  pub entered : List Found
+  pub updates : ℕ → ℕ
+  pub objects : List ℕ
+
+-- with no rest, a step enters the next cell
+abbrev pub follow : Event → List Event → Sweep → Sweep
+follow e past s =
+    let t = tally past (s .lane) in
+    let step : Bool = when (deed e .goes) (λ a. eqb (a .0) (s .lane) && not (eqb (a .1) 20)) false in
+    pick (s .finished) s
+    (record {
+      lane = s .lane;
+      question = s .question;
+      steps = s .steps + bit step;
+      finished = when (deed e .goes) (λ a. eqb (a .0) (s .lane) && eqb (a .1) 22) false;
+      entered = pick (step && eqb (t .rest) 0) (found (e .seen) (at (t .cells) 0) ∷ s .entered) (s .entered);
+      updates = λ k. s .updates k + bit (when (deed e .begins) (λ b. eqb (b .1) k) false);
+      objects = known (e ∷ past);
+    })
+
+-- at its start: the updates under way count
+abbrev pub opened : ℕ → Question → List Event → Sweep
+opened l u past = record { lane = l; question = u; steps = 0; finished = false; entered = []; updates = λ k. count 8 (λ j. when (underWay past j) (λ i. eqb i k) false); objects = known past }
+
+unfoldable pub sweeps : List Event → List Sweep
+sweeps [] = []
+sweeps (e ∷ past) = let ss = map (follow e past) (sweeps past) in when (deed e .asks) (λ a. opened (a .0) (a .1) past ∷ ss) ss
+
+unfoldable pub latest : ℕ → List Sweep → Option Sweep
+latest q [] = none
+latest q (s ∷ ss) = pick (eqb (s .lane) q) (some s) (latest q ss)
+
+-- ---- THE CLAIMS
+-- document 01's K; what was found in all cells, together; the cells in the order in which they were entered
+abbrev pub cellCount : Question → ℕ
+cellCount u = (u .x1 / 1024 - u .x0 / 1024 + 1) * (u .y1 / 1024 - u .y0 / 1024 + 1)
+
+unfoldable pub total : List Found → ℕ
+total [] = 0
+total (f ∷ fs) = f .buckets + f .tuples + total fs
+
+unfoldable pub visits : List Found → List ℕ
+visits [] = []
+visits (f ∷ fs) = visits fs ++ f .cell ∷ []
+
+-- the next step is to enter a locked cell
+abbrev pub AtLocked : Seen → Tally → Type 0
+AtLocked s t = (t .rest ≡ 0) × ((c : ℕ) × (cs : List ℕ) × (t .cells ≡ c ∷ cs) × (at (s .locks) c ≢ 0))
+
+-- 1. An accepted step gives the tally's answer: 'blocked' exactly when it is to enter a locked cell.
+pub record StepFits (n : ℕ) (s : Seen) (t : Tally) : Type 0 where
+  pub answer : n ≡ stepOf s t .0
+  pub blocked : (n ≡ 20 → AtLocked s t) × (AtLocked s t → n ≡ 20)
+
+-- 2. An accepted collection hands back the tally's count, which is the number of the query's accepted steps that were not blocked; and it is K and, for each of its
+-- cells, the buckets and tuples found at the step that entered it.
+pub record Counted (l n : ℕ) (past : List Event) : Type 0 where
+  pub tally : n ≡ tally past l .count
+  pub query : Sweep
+  pub last : latest l (sweeps past) ≡ some query
+  pub steps : n ≡ query .steps
+  pub found : n ≡ cellCount (query .question) + total (query .entered)
+  pub each : visits (query .entered) ≡ walk (query .question)
+
+-- 3. A query has had at most K + 6 × N such steps, and if it has had that many it is finished.
+abbrev pub Bounded : Sweep → Type 0
+Bounded s = let most = cellCount (s .question) + 6 * length (s .objects) in (s .steps ≤ most) × (s .steps ≡ most → s .finished ≡ true)
+
+-- THE CLAIM about a list of calls: 1 and 2 of each call in it, whatever came before and after; 3, after the list, of each query with at most one update of each object in the whole of it
+pub record Accounted (cs : List Call) : Type 0 where
+  pub steps : (after before : List Event) (e : Event) (l n : ℕ) → history cs emptyGrid [] ≡ after ++ e ∷ before → deed e .goes ≡ some (l, n) → StepFits n (e .seen) (tally before l)
+  pub collections : (after before : List Event) (e : Event) (l : ℕ) → history cs emptyGrid [] ≡ after ++ e ∷ before → deed e .collects ≡ some l → Counted l (e .answer .steps) before
+  pub queries : (ss ts : List Sweep) (s : Sweep) → sweeps (history cs emptyGrid []) ≡ ss ++ s ∷ ts → ((k : ℕ) → s .updates k ≤ 1) → Bounded s
