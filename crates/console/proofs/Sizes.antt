@@ -1,4 +1,4 @@
--- HOW LONG the tables and the buffers of a run are.
+-- HOW LONG the tables and the buffers of a run are, and what the calls of run_script ask for: it follows from the lengths by arithmetic.
 use mathlib.Core.Path.{_≡_, sym, ap}
 use mathlib.Core.List.{List}
 use Prim.Native.Nat.{ℕ, _+_, _-_, _<_, _≤_}

@@ -1,6 +1,5 @@
 -- answer_line makes a `Turn`: what line_step and print_step ensure are its two parts. Every table keeps its length, since line_step keeps it.
 use Rattle.console.proofs.Turns.{print-asked, turn-made}
-use borrow.Author.Needs.{needs}
 use Rattle.console.proofs.turn.answer_line.Statement.{statement}
 use Rattle.console.proofs.turn.answer_line.Tie as tie
 
