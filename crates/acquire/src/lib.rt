@@ -1,11 +1,18 @@
 // Stages 1, 2, 3 and 14 of an update: it takes and releases the locks of objects and cells.
-// Tables: object, lock and previous place of each index entry (512); lock and first bucket of each cell (256); count of each bucket (512); the tuples' objects (2,048).
+// On the index, the locks of the cells, or the words that hold all tables; their lengths are the caller's to check.
 ghost use mathlib.Core.Path.{_≡_};
 ghost use lib.ListN.{length};
-ghost use Rattle.base.specs.Step.{turned};
-ghost use Rattle.stage.specs.Turn.{turnSays};
-ghost use Rattle.acquire.specs.Acquire.{hold, stage1, stage2, locksOf, goBack, stage3, stage14};
+ghost use Rattle.index.specs.Index.{indexAt, withLock};
+ghost use Rattle.tables.specs.Tables.{withLocks};
+ghost use Rattle.acquire.specs.Acquire.{hold, stage2};
+ghost use Rattle.acquire.specs.On.{lockObject, freeObject, takeOn, endOn, backOn, lastOn};
+ghost use Rattle.base.specs.Promise.{AttemptsIn, ChangesIn};
+ghost use Rattle.words.specs.Map.{INDEX-SIZE, WORDS};
+ghost use Rattle.tables.specs.Promise.{OnWords};
+ghost use Rattle.stage.specs.Promise.{Turns};
+ghost use Rattle.base.specs.Lent.{new, old};
 use base::Attempt;
+use base::CELL_COUNT;
 use base::Change;
 use cells::LastTuple;
 use cells::last_tuple;
@@ -19,10 +26,18 @@ use locks::release_lock;
 use locks::take_lock;
 use stage::Stage;
 use stage::Turn;
+use words::CELLS;
+use words::FIRST;
+use words::HITS;
+use words::INDEX;
+use words::INDEX_CURRENT;
+use words::INDEX_LOCKS;
+use words::INDEX_PREVIOUS;
+use words::INDEX_SIZE;
 
 // stages 1 and 2: takes a lock and goes on to another stage. Blocked if it is taken.
 fn hold_lock(locks: &mut [u32], at: usize, owner: u32, next: Stage) -> Turn
-    ensures { λ r. ⌜ turned (now (locks .entry)) (hold (now (locks .entry)) at owner next) ≡ (turnSays r, now (locks .exit)) ⌝ }
+    ensures { λ r. ⌜ Turns (λ l. hold l at owner next) r (old locks) (new locks) ⌝ }
 {
     let taken = take_lock(locks, at, owner);
     match taken {
@@ -32,16 +47,40 @@ fn hold_lock(locks: &mut [u32], at: usize, owner: u32, next: Stage) -> Turn
     }
 }
 
-// stage 1: takes the object's lock. With a previous place it goes on to lock that place's cell, else to choose the new cell.
-pub fn take_object(oids: &[u32], locks: &mut [u32], previous: &[u32], oid: u32, owner: u32) -> Turn
-    requires { ⌜ length (now oids) ≡ 512 ⌝ }
-    ensures { λ r. ⌜ turned (now (locks .entry)) (stage1 (now (oids .entry)) (now (locks .entry)) (now (previous .entry)) oid owner) ≡ (turnSays r, now (locks .exit)) ⌝ }
+// Takes the lock of an object's entry. Blocked if it is taken.
+fn lock_object(index: &mut [u32], oid: u32, owner: u32) -> Attempt
+    requires { ⌜ length (now index) ≡ INDEX-SIZE ⌝ }
+    ensures { λ r. ⌜ AttemptsIn withLock (λ d. lockObject d oid owner) r (indexAt (old index)) (indexAt (new index)) ⌝ }
 {
-    let s = find_object(oids, oid);
+    let s = find_object(&index[0..INDEX_LOCKS], oid);
+    let Search::Found(i) = s else {
+        return Attempt::Corrupt;
+    };
+    take_lock(&mut index[INDEX_LOCKS..INDEX_CURRENT], i, owner)
+}
+
+// Frees the lock of an object's entry.
+fn free_object(index: &mut [u32], oid: u32) -> Change
+    requires { ⌜ length (now index) ≡ INDEX-SIZE ⌝ }
+    ensures { λ r. ⌜ ChangesIn withLock (λ d. freeObject d oid) r (indexAt (old index)) (indexAt (new index)) ⌝ }
+{
+    let s = find_object(&index[0..INDEX_LOCKS], oid);
+    let Search::Found(i) = s else {
+        return Change::Corrupt;
+    };
+    release_lock(&mut index[INDEX_LOCKS..INDEX_CURRENT], i)
+}
+
+// stage 1: takes the object's lock. With a previous place it goes on to lock that place's cell, else to choose the new cell.
+pub fn take_object(index: &mut [u32], oid: u32, owner: u32) -> Turn
+    requires { ⌜ length (now index) ≡ INDEX-SIZE ⌝ }
+    ensures { λ r. ⌜ Turns (λ d. takeOn d oid owner) r (indexAt (old index)) (indexAt (new index)) ⌝ }
+{
+    let s = find_object(&index[0..INDEX_LOCKS], oid);
     let Search::Found(i) = s else {
         return Turn::Corrupt;
     };
-    let free = look_lock(locks, i);
+    let free = look_lock(&index[INDEX_LOCKS..INDEX_CURRENT], i);
     match free {
         Attempt::Corrupt => {
             return Turn::Corrupt;
@@ -51,61 +90,64 @@ pub fn take_object(oids: &[u32], locks: &mut [u32], previous: &[u32], oid: u32, 
         }
         Attempt::Done => {}
     }
-    let old = read_place(previous, i);
+    let old = read_place(&index[INDEX_PREVIOUS..INDEX_SIZE], i);
     match old {
         PlaceRead::Corrupt => Turn::Corrupt,
-        PlaceRead::Nowhere => hold_lock(locks, i, owner, Stage::ChooseCell),
-        PlaceRead::At(place) => hold_lock(locks, i, owner, Stage::LockCell(place)),
+        PlaceRead::Nowhere => hold_lock(
+            &mut index[INDEX_LOCKS..INDEX_CURRENT],
+            i,
+            owner,
+            Stage::ChooseCell,
+        ),
+        PlaceRead::At(place) => hold_lock(
+            &mut index[INDEX_LOCKS..INDEX_CURRENT],
+            i,
+            owner,
+            Stage::LockCell(place),
+        ),
     }
 }
 
 // stage 2: locks the cell of the place to be erased.
 pub fn lock_cell(cells: &mut [u32], place: Place, owner: u32) -> Turn
-    ensures { λ r. ⌜ turned (now (cells .entry)) (stage2 (now (cells .entry)) place owner) ≡ (turnSays r, now (cells .exit)) ⌝ }
+    ensures { λ r. ⌜ Turns (λ l. stage2 l place owner) r (old cells) (new cells) ⌝ }
 {
     let cell = place.cell;
     hold_lock(cells, cell as usize, owner, Stage::LookLast(place))
 }
 
 // stage 3, where the other object's lock is taken: releases the own object and the cell, and goes back to stage 1.
-fn go_back(oids: &[u32], locks: &mut [u32], cells: &mut [u32], place: Place, oid: u32) -> Turn
-    requires { ⌜ length (now oids) ≡ 512 ⌝ }
-    ensures { λ r. ⌜ turned (locksOf (now (locks .entry)) (now (cells .entry))) (goBack (now (oids .entry)) (locksOf (now (locks .entry)) (now (cells .entry))) place oid) ≡ (turnSays r, locksOf (now (locks .exit)) (now (cells .exit))) ⌝ }
+fn go_back(words: &mut [u32], place: Place, oid: u32) -> Turn
+    requires { ⌜ length (now words) ≡ WORDS ⌝ }
+    ensures { λ r. ⌜ OnWords words (Turns (λ t. backOn t place oid) r) ⌝ }
 {
-    let s = find_object(oids, oid);
-    let Search::Found(i) = s else {
+    let cell = place.cell;
+    if cell >= CELL_COUNT {
+        return Turn::Corrupt;
+    }
+    let freed = free_object(&mut words[INDEX..HITS], oid);
+    let Change::Done = freed else {
         return Turn::Corrupt;
     };
-    let cell = place.cell;
-    let c = cell as usize;
-    if i >= locks.len() {
-        return Turn::Corrupt;
-    }
-    if c >= cells.len() {
-        return Turn::Corrupt;
-    }
-    locks[i] = 0;
-    cells[c] = 0;
+    let cells = &mut words[CELLS..FIRST];
+    cells[cell as usize] = 0;
     Turn::Restarted
 }
 
-// stage 3: looks at the last tuple of the cell's first bucket. If it is another object's, it takes that object's lock, or goes back if that is taken.
-pub fn look_last(
-    first: &[u32],
-    count: &[u32],
-    owners: &[u32],
-    oids: &[u32],
-    locks: &mut [u32],
-    cells: &mut [u32],
-    place: Place,
-    oid: u32,
-    owner: u32,
-) -> Turn
-    requires { ⌜ (length (now first) ≡ 256) × (length (now count) ≡ 512) × (length (now owners) ≡ 2048) × (length (now oids) ≡ 512) ⌝ }
-    ensures { λ r. ⌜ turned (locksOf (now (locks .entry)) (now (cells .entry))) (stage3 (now (first .entry)) (now (count .entry)) (now (owners .entry)) (now (oids .entry)) (locksOf (now (locks .entry)) (now (cells .entry))) place oid owner) ≡ (turnSays r, locksOf (now (locks .exit)) (now (cells .exit))) ⌝ }
+// stage 3: takes the lock of the other object.
+fn lock_other(words: &mut [u32], oid: u32, owner: u32) -> Attempt
+    requires { ⌜ length (now words) ≡ WORDS ⌝ }
+    ensures { λ r. ⌜ OnWords words (AttemptsIn withLocks (λ t. lockObject (t .index) oid owner) r) ⌝ }
 {
-    let cell = place.cell;
-    let l = last_tuple(first, count, owners, cell);
+    lock_object(&mut words[INDEX..HITS], oid, owner)
+}
+
+// stage 3: looks at the last tuple of the cell's first bucket. If it is another object's, it takes that object's lock, or goes back if that is taken.
+pub fn look_last(words: &mut [u32], place: Place, oid: u32, owner: u32) -> Turn
+    requires { ⌜ length (now words) ≡ WORDS ⌝ }
+    ensures { λ r. ⌜ OnWords words (Turns (λ t. lastOn t place oid owner) r) ⌝ }
+{
+    let l = last_tuple(words, place.cell);
     let LastTuple::At(last) = l else {
         return Turn::Corrupt;
     };
@@ -113,28 +155,20 @@ pub fn look_last(
     if moved == oid {
         return Turn::Advanced(Stage::CopyLast(place, oid));
     }
-    let s = find_object(oids, moved);
-    let Search::Found(j) = s else {
-        return Turn::Corrupt;
-    };
-    let taken = take_lock(locks, j, owner);
+    let taken = lock_other(words, moved, owner);
     match taken {
         Attempt::Corrupt => Turn::Corrupt,
-        Attempt::Blocked => go_back(oids, locks, cells, place, oid),
+        Attempt::Blocked => go_back(words, place, oid),
         Attempt::Done => Turn::Advanced(Stage::CopyLast(place, moved)),
     }
 }
 
 // stage 14: releases the object. The update has ended.
-pub fn release_object(oids: &[u32], locks: &mut [u32], oid: u32) -> Turn
-    requires { ⌜ length (now oids) ≡ 512 ⌝ }
-    ensures { λ r. ⌜ turned (now (locks .entry)) (stage14 (now (oids .entry)) (now (locks .entry)) oid) ≡ (turnSays r, now (locks .exit)) ⌝ }
+pub fn release_object(index: &mut [u32], oid: u32) -> Turn
+    requires { ⌜ length (now index) ≡ INDEX-SIZE ⌝ }
+    ensures { λ r. ⌜ Turns (λ d. endOn d oid) r (indexAt (old index)) (indexAt (new index)) ⌝ }
 {
-    let s = find_object(oids, oid);
-    let Search::Found(i) = s else {
-        return Turn::Corrupt;
-    };
-    let freed = release_lock(locks, i);
+    let freed = free_object(index, oid);
     match freed {
         Change::Corrupt => Turn::Corrupt,
         Change::Done => Turn::Finished,

@@ -3,8 +3,8 @@ ghost use Prim.Native.Nat.{_+_, _*_, _≤_};
 ghost use lib.ListN.{length};
 ghost use Rattle.answers.specs.Answer.{entryLines, collection};
 ghost use Rattle.answers.specs.Printed.{Printed};
-use crate::lines::print_collected;
-use crate::lines::print_entry;
+use crate::rows::print_collected;
+use crate::rows::print_entry;
 
 // One line for each entry; the list has three numbers for each.
 pub fn print_entries(out: &mut [u8], at: usize, list: &[u32], entries: usize) -> usize

@@ -1,5 +1,32 @@
-// The words that every crate shares: the answers of operations that hand back no value.
+// The words that every crate shares: how many of each thing there are, and the answers of operations that hand back no value.
 // Their numbers in document 01 are in specs/Answer.antt, how an operation ends in specs/Outcome.antt.
+
+// How many cells, buckets and entries of the object index there are, and slots in a bucket.
+pub const CELL_COUNT: u32 = 256;
+
+pub const BUCKET_COUNT: u32 = 512;
+
+pub const ENTRY_COUNT: usize = 512;
+
+pub const BUCKET_SLOTS: u32 = 4;
+
+// How many updates and queries there are at a time (document 01: lanes), and how many objects may be known.
+pub const UPDATER_COUNT: u32 = 8;
+
+pub const QUERY_COUNT: u32 = 4;
+
+pub const MOST_OBJECTS: usize = 256;
+
+// How many hits the list of a query holds.
+pub const LIST_SIZE: usize = 256;
+
+// The largest magnitude of a timestamp, and the clock from which on no start is accepted.
+pub const LAST_STAMP: u32 = 2147483647;
+
+pub const CLOCK_SPENT: u32 = 2147483600;
+
+// The number of 'no bucket', where a cell or a bucket names the next one.
+pub const NO_BUCKET: u32 = 512;
 
 // A change of the tables: refused as corrupt, or done.
 pub enum Change {

@@ -1,4 +1,6 @@
 pub mod Answers
+mod Doing
+pub mod Stored
 mod Pick
 pub mod Chains
 pub mod Counts

@@ -1,19 +1,38 @@
 // Cells: the chain of buckets of each cell, and what the stages of an update do to it.
-// Tables: first bucket of each cell (256), 512 is none; count, next and readers of each bucket (512); the tuples'; the pool's.
-// The lengths are the caller's to check, but the pool's.
+// On the words that hold all tables; their number is the caller's to check.
 ghost use mathlib.Core.Path.{_≡_};
+ghost use Prim.Native.Nat.{_<_};
+ghost use mathlib.Core.List.{List};
+ghost use lib.IntN.{ℤ};
 ghost use lib.ListN.{length};
-ghost use Rattle.base.specs.Outcome.{tells, ended, nothing};
-ghost use Rattle.base.specs.Answer.{changeSays, attemptSays};
-ghost use Rattle.base.specs.Table.{both};
-ghost use Rattle.layout.specs.Place.{placeList};
-ghost use Rattle.slots.specs.Tuple.{tuplesOf};
-ghost use Rattle.cells.specs.Chain.{last, lastValues, lastTupleSays, Lowering, lower, unlinkedValues, loweredSays, giveBack, Chains, chainsOf, push, makeRoom, Writing, write, writtenSays, raise};
+ghost use Rattle.base.specs.Outcome.{tells};
+ghost use Rattle.tables.specs.Tables.{withPool, withTuples};
+ghost use Rattle.tables.specs.Grid.{grid};
+ghost use Rattle.cells.specs.Chain.{lastValues, lastTupleSays, raise};
+ghost use Rattle.cells.specs.On.{lastOn, giveBackOn, linked, pushOn, makeRoomOn, withChains, copyOn, overwriteOn, Lowers, Writes};
+ghost use Rattle.base.specs.Promise.{AttemptsIn, Changes, ChangesIn};
+ghost use Rattle.tables.specs.Promise.{OnGrid, OnWords};
+ghost use Rattle.words.specs.Map.{TIMES, WORDS};
+ghost use Rattle.base.specs.Lent.{new, old};
 use base::Attempt;
+use base::BUCKET_COUNT;
+use base::BUCKET_SLOTS;
+use base::CELL_COUNT;
 use base::Change;
+use base::NO_BUCKET;
+use base::QUERY_COUNT;
 use layout::place::Place;
 use pool::Taken;
+use slots::tuple::copy_tuple;
 use slots::tuple::overwrite_tuple;
+use words::COUNT;
+use words::FIRST;
+use words::INDEX;
+use words::NEXT;
+use words::POOL;
+use words::READERS;
+use words::TUPLES;
+use words::WORDS;
 
 // The last tuple of a cell's first bucket: where it is, and whose.
 pub struct Last {
@@ -40,148 +59,189 @@ pub enum Written {
     At(Place),
 }
 
-pub fn last_tuple(first: &[u32], count: &[u32], oids: &[u32], cell: u32) -> LastTuple
-    requires { ⌜ (length (now first) ≡ 256) × (length (now count) ≡ 512) × (length (now oids) ≡ 2048) ⌝ }
-    ensures { λ r. ⌜ tells lastValues (last (now (first .entry)) (now (count .entry)) (now (oids .entry)) cell) ≡ lastTupleSays r ⌝ }
+pub fn last_tuple(words: &[u32], cell: u32) -> LastTuple
+    requires { ⌜ length (now words) ≡ WORDS ⌝ }
+    ensures { λ r. ⌜ ((ts : List ℤ) → tells lastValues (lastOn (grid (old words) ts) cell) ≡ lastTupleSays r) ⌝ }
 {
-    if cell >= 256 {
+    if cell >= CELL_COUNT {
         return LastTuple::Corrupt;
     }
-    let bucket = first[cell as usize];
-    if bucket >= 512 {
+    let bucket = words[FIRST + cell as usize];
+    if bucket >= BUCKET_COUNT {
         return LastTuple::Corrupt;
     }
-    let n = count[bucket as usize];
+    let n = words[COUNT + bucket as usize];
     if n == 0 {
         return LastTuple::Corrupt;
     }
-    if n > 4 {
+    if n > BUCKET_SLOTS {
         return LastTuple::Corrupt;
     }
     let slot = n - 1;
-    let oid = oids[(4 * bucket + slot) as usize];
+    let oid = words[TUPLES + (BUCKET_SLOTS * bucket + slot) as usize];
     LastTuple::At(Last { bucket, slot, oid })
 }
 
-pub fn lower_count(first: &mut [u32], count: &mut [u32], next: &[u32], cell: u32) -> Lowered
-    requires { ⌜ (length (now first) ≡ 256) × (length (now count) ≡ 512) × (length (now next) ≡ 512) ⌝ }
-    ensures { λ r. ⌜ ended (λ (l : Lowering). unlinkedValues (l .unlinked)) (λ (l : Lowering). both (l .first) (l .count)) (both (now (first .entry)) (now (count .entry))) (lower (now (first .entry)) (now (count .entry)) (now (next .entry)) cell) ≡ (loweredSays r, both (now (first .exit)) (now (count .exit))) ⌝ }
+pub fn lower_count(words: &mut [u32], cell: u32) -> Lowered
+    requires { ⌜ length (now words) ≡ WORDS ⌝ }
+    ensures { λ r. ⌜ OnWords words (Lowers cell r) ⌝ }
 {
-    if cell >= 256 {
+    if cell >= CELL_COUNT {
         return Lowered::Corrupt;
     }
-    let at = cell as usize;
-    let bucket = first[at];
-    if bucket >= 512 {
+    let at = FIRST + cell as usize;
+    let bucket = words[at];
+    if bucket >= BUCKET_COUNT {
         return Lowered::Corrupt;
     }
     let b = bucket as usize;
-    let n = count[b];
+    let n = words[COUNT + b];
     if n == 0 {
         return Lowered::Corrupt;
     }
-    if n > 4 {
+    if n > BUCKET_SLOTS {
         return Lowered::Corrupt;
     }
     if n != 1 {
-        count[b] = n - 1;
+        words[COUNT + b] = n - 1;
         return Lowered::Kept;
     }
-    let below = next[b];
-    if below > 512 {
+    let below = words[NEXT + b];
+    if below > NO_BUCKET {
         return Lowered::Corrupt;
     }
-    first[at] = below;
-    count[b] = 0;
+    words[at] = below;
+    words[COUNT + b] = 0;
     Lowered::Unlinked(bucket)
 }
 
 // Returns an unlinked bucket to the pool, once it has no readers.
-pub fn return_bucket(readers: &[u32], pool: &mut [u32], bucket: u32) -> Attempt
-    requires { ⌜ length (now readers) ≡ 512 ⌝ }
-    ensures { λ r. ⌜ ended nothing (λ l. l) (now (pool .entry)) (giveBack (now (readers .entry)) (now (pool .entry)) bucket) ≡ (attemptSays r, now (pool .exit)) ⌝ }
+pub fn return_bucket(words: &mut [u32], bucket: u32) -> Attempt
+    requires { ⌜ length (now words) ≡ WORDS ⌝ }
+    ensures { λ r. ⌜ OnWords words (AttemptsIn withPool (λ t. giveBackOn t bucket) r) ⌝ }
 {
-    if bucket >= 512 {
+    if bucket >= BUCKET_COUNT {
         return Attempt::Corrupt;
     }
-    let n = readers[bucket as usize];
-    if n > 4 {
+    let n = words[READERS + bucket as usize];
+    if n > QUERY_COUNT {
         return Attempt::Corrupt;
     }
     if n != 0 {
         return Attempt::Blocked;
     }
-    let given = pool::give_bucket(pool, bucket);
+    let given = pool::give_bucket(&mut words[POOL..WORDS], bucket);
     match given {
         Change::Corrupt => Attempt::Corrupt,
         Change::Done => Attempt::Done,
     }
 }
 
-// Puts a bucket from the pool first in a cell.
-pub fn push_bucket(
-    first: &mut [u32],
-    count: &mut [u32],
-    next: &mut [u32],
-    pool: &mut [u32],
-    cell: u32,
-) -> Change
-    requires { ⌜ (length (now first) ≡ 256) × (length (now count) ≡ 512) × (length (now next) ≡ 512) ⌝ }
-    ensures { λ r. ⌜ ended nothing (λ (d : Chains). d) (chainsOf (now (first .entry)) (now (count .entry)) (now (next .entry)) (now (pool .entry))) (push (chainsOf (now (first .entry)) (now (count .entry)) (now (next .entry)) (now (pool .entry))) cell) ≡ (changeSays r, chainsOf (now (first .exit)) (now (count .exit)) (now (next .exit)) (now (pool .exit))) ⌝ }
+// Puts an empty bucket first in a cell.
+fn link_bucket(words: &mut [u32], cell: u32, bucket: u32)
+    requires { ⌜ (length (now words) ≡ WORDS) × (cell < 256) × (bucket < 512) ⌝ }
+    ensures { λ r. ⌜ OnWords words (λ t t′. t′ ≡ linked t cell bucket) ⌝ }
 {
-    if cell >= 256 {
+    let at = FIRST + cell as usize;
+    let b = bucket as usize;
+    let below = words[at];
+    words[COUNT + b] = 0;
+    words[NEXT + b] = below;
+    words[at] = bucket;
+}
+
+// Puts a bucket from the pool first in a cell.
+pub fn push_bucket(words: &mut [u32], cell: u32) -> Change
+    requires { ⌜ length (now words) ≡ WORDS ⌝ }
+    ensures { λ r. ⌜ OnWords words (ChangesIn withChains (λ t. pushOn t cell) r) ⌝ }
+{
+    if cell >= CELL_COUNT {
         return Change::Corrupt;
     }
-    let at = cell as usize;
-    let taken = pool::take_bucket(pool);
+    let taken = pool::take_bucket(&mut words[POOL..WORDS]);
     let Taken::Bucket(bucket) = taken else {
         return Change::Corrupt;
     };
-    let b = bucket as usize;
-    count[b] = 0;
-    next[b] = first[at];
-    first[at] = bucket;
+    link_bucket(words, cell, bucket);
     Change::Done
 }
 
 // Makes room for a tuple in a cell's first bucket.
-pub fn make_room(
-    first: &mut [u32],
-    count: &mut [u32],
-    next: &mut [u32],
-    pool: &mut [u32],
-    cell: u32,
-) -> Change
-    requires { ⌜ (length (now first) ≡ 256) × (length (now count) ≡ 512) × (length (now next) ≡ 512) ⌝ }
-    ensures { λ r. ⌜ ended nothing (λ (d : Chains). d) (chainsOf (now (first .entry)) (now (count .entry)) (now (next .entry)) (now (pool .entry))) (makeRoom (chainsOf (now (first .entry)) (now (count .entry)) (now (next .entry)) (now (pool .entry))) cell) ≡ (changeSays r, chainsOf (now (first .exit)) (now (count .exit)) (now (next .exit)) (now (pool .exit))) ⌝ }
+pub fn make_room(words: &mut [u32], cell: u32) -> Change
+    requires { ⌜ length (now words) ≡ WORDS ⌝ }
+    ensures { λ r. ⌜ OnWords words (ChangesIn withChains (λ t. makeRoomOn t cell) r) ⌝ }
 {
-    if cell >= 256 {
+    if cell >= CELL_COUNT {
         return Change::Corrupt;
     }
-    let bucket = first[cell as usize];
-    if bucket > 512 {
+    let bucket = words[FIRST + cell as usize];
+    if bucket > NO_BUCKET {
         return Change::Corrupt;
     }
-    if bucket == 512 {
-        return push_bucket(first, count, next, pool, cell);
+    if bucket == NO_BUCKET {
+        return push_bucket(words, cell);
     }
-    let n = count[bucket as usize];
-    if n > 4 {
+    let n = words[COUNT + bucket as usize];
+    if n > BUCKET_SLOTS {
         return Change::Corrupt;
     }
-    if n == 4 {
-        return push_bucket(first, count, next, pool, cell);
+    if n == BUCKET_SLOTS {
+        return push_bucket(words, cell);
     }
     Change::Done
 }
 
+// Copies a tuple over another.
+pub fn copy_slot(
+    words: &mut [u32],
+    times: &mut [i32],
+    bucket: u32,
+    slot: u32,
+    bucket2: u32,
+    slot2: u32,
+) -> Change
+    requires { ⌜ (length (now words) ≡ WORDS) × (length (now times) ≡ TIMES) ⌝ }
+    ensures { λ r. ⌜ OnGrid words times (ChangesIn withTuples (λ t. copyOn t bucket slot bucket2 slot2) r) ⌝ }
+{
+    copy_tuple(
+        &mut words[TUPLES..INDEX],
+        times,
+        bucket,
+        slot,
+        bucket2,
+        slot2,
+    )
+}
+
+// Writes a current tuple over the one at a slot.
+pub fn overwrite_slot(
+    words: &mut [u32],
+    times: &mut [i32],
+    bucket: u32,
+    slot: u32,
+    oid: u32,
+    x: u32,
+    y: u32,
+    time: u32,
+) -> Change
+    requires { ⌜ (length (now words) ≡ WORDS) × (length (now times) ≡ TIMES) ⌝ }
+    ensures { λ r. ⌜ OnGrid words times (ChangesIn withTuples (λ t. overwriteOn t bucket slot oid x y time) r) ⌝ }
+{
+    overwrite_tuple(
+        &mut words[TUPLES..INDEX],
+        times,
+        bucket,
+        slot,
+        oid,
+        x,
+        y,
+        time,
+    )
+}
+
 // Writes a tuple at the slot of a cell's first bucket that is numbered by the count.
 pub fn write_tuple(
-    first: &[u32],
-    count: &[u32],
-    oids: &mut [u32],
-    xs: &mut [u32],
-    ys: &mut [u32],
+    words: &mut [u32],
     times: &mut [i32],
     cell: u32,
     oid: u32,
@@ -189,37 +249,38 @@ pub fn write_tuple(
     y: u32,
     time: u32,
 ) -> Written
-    requires { ⌜ (length (now first) ≡ 256) × (length (now count) ≡ 512) × (length (now oids) ≡ 2048) × (length (now xs) ≡ 2048) × (length (now ys) ≡ 2048) × (length (now times) ≡ 2048) ⌝ }
-    ensures { λ r. ⌜ ended (λ (w : Writing). placeList (w .place)) (λ (w : Writing). w .tuples) (tuplesOf (now (oids .entry)) (now (xs .entry)) (now (ys .entry)) (now (times .entry))) (write (now (first .entry)) (now (count .entry)) (tuplesOf (now (oids .entry)) (now (xs .entry)) (now (ys .entry)) (now (times .entry))) cell oid x y time) ≡ (writtenSays r, tuplesOf (now (oids .exit)) (now (xs .exit)) (now (ys .exit)) (now (times .exit))) ⌝ }
+    requires { ⌜ (length (now words) ≡ WORDS) × (length (now times) ≡ TIMES) ⌝ }
+    ensures { λ r. ⌜ OnGrid words times (Writes cell oid x y time r) ⌝ }
 {
-    if cell >= 256 {
+    if cell >= CELL_COUNT {
         return Written::Corrupt;
     }
-    let bucket = first[cell as usize];
-    if bucket >= 512 {
+    let bucket = words[FIRST + cell as usize];
+    if bucket >= BUCKET_COUNT {
         return Written::Corrupt;
     }
-    let slot = count[bucket as usize];
-    if slot >= 4 {
+    let slot = words[COUNT + bucket as usize];
+    if slot >= BUCKET_SLOTS {
         return Written::Corrupt;
     }
-    let done = overwrite_tuple(oids, xs, ys, times, bucket, slot, oid, x, y, time);
+    let done = overwrite_slot(words, times, bucket, slot, oid, x, y, time);
     match done {
         Change::Corrupt => Written::Corrupt,
         Change::Done => Written::At(Place { cell, bucket, slot }),
     }
 }
 
+// A tuple more in a bucket, on the counts alone.
 pub fn raise_count(count: &mut [u32], bucket: u32) -> Change
     requires { ⌜ length (now count) ≡ 512 ⌝ }
-    ensures { λ r. ⌜ ended nothing (λ l. l) (now (count .entry)) (raise (now (count .entry)) bucket) ≡ (changeSays r, now (count .exit)) ⌝ }
+    ensures { λ r. ⌜ Changes (old count) (λ l. raise l bucket) r (new count) ⌝ }
 {
-    if bucket >= 512 {
+    if bucket >= BUCKET_COUNT {
         return Change::Corrupt;
     }
     let b = bucket as usize;
     let n = count[b];
-    if n >= 4 {
+    if n >= BUCKET_SLOTS {
         return Change::Corrupt;
     }
     count[b] = n + 1;

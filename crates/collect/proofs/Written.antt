@@ -3,11 +3,15 @@
 use mathlib.Core.Path.{_≡_, refl, ap, _∙_}
 use mathlib.Core.List.{List, [], _∷_, _++_}
 use Prim.Native.Nat.{ℕ, zero, suc, _+_, _*_, _<_, _≤_}
+use native.Mathlib.Nat.{zero-add}
 use native.Mathlib.Omega.{arith}
 use lib.ListN.{length, getD, set, take, drop, length-set, length-append, length-drop}
 use lib.Seq.{sets-eq, take-at, drop-at, drop-append-add, drop-drop}
 use Rattle.base.specs.Table.{at}
-use Rattle.hits.specs.Hits.{Hits}
+use Rattle.words.specs.Map.{HIT-XS, HIT-YS}
+use Rattle.words.specs.Part.{part}
+use Rattle.words.proofs.Parts.{part-at}
+use Rattle.hits.specs.Hits.{Hits, hitsAt}
 use Rattle.collect.specs.Collect.{entriesFrom}
 use Rattle.collect.specs.Filling.{over}
 
@@ -95,3 +99,12 @@ module _ (h : Hits) (from size : ℕ) (l₀ : List ℕ) where
 
   pub writing-all : (l : List ℕ) (i : ℕ) → size ≤ i → Writing h from size l₀ l i → l ≡ over (entriesFrom h from size) l₀
   writing-all l i s W = let e : i ≡ size = omega (arith, W .low) in W .front ∙ ap (λ (j : ℕ). over (entriesFrom h from j) l₀) e
+
+-- the same where the three tables of the hits stand in one list
+pub writing-next : (h l₀ l : List ℕ) (from size i : ℕ) → from + size ≤ 1024 → 3 * size ≤ length l₀ → i < size → Writing (hitsAt h) from size l₀ l i
+    → Writing (hitsAt h) from size l₀ (set (set (set l (3 * i) (getD h (from + i) 0)) (3 * i + 1) (getD h (HIT-XS + (from + i)) 0)) (3 * i + 2) (getD h (HIT-YS + (from + i)) 0)) (i + 1)
+writing-next h l₀ l from size i f s b W =
+    let o : at (part 0 1024 h) (from + i) ≡ getD h (from + i) 0 = part-at h 0 1024 (from + i) 0 (omega arith) ∙ ap (λ (k : ℕ). getD h k 0) (zero-add (from + i)) in
+    let x : at (part HIT-XS 1024 h) (from + i) ≡ getD h (HIT-XS + (from + i)) 0 = part-at h HIT-XS 1024 (from + i) 0 (omega arith) in
+    let y : at (part HIT-YS 1024 h) (from + i) ≡ getD h (HIT-YS + (from + i)) 0 = part-at h HIT-YS 1024 (from + i) 0 (omega arith) in
+    rw (← o, ← x, ← y) (writing-more (hitsAt h) from size l₀ l i s b W)

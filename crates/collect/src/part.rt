@@ -2,8 +2,9 @@
 // A function that returns a part of a lent list says nothing of the list's last value, and it cannot give the queries back as well:
 // who wants the queries afterwards, or the whole list, calls `whole::collect` and takes `out[..filled]`.
 ghost use mathlib.Core.Path.{_≡_};
-ghost use Rattle.calls.specs.Call.{gridTables};
+ghost use Rattle.tables.specs.Grid.{grid};
 ghost use Rattle.collect.specs.Filling.{partedOf, collectPart};
+ghost use Rattle.base.specs.Lent.{new, old};
 use crate::whole::collect;
 use query::Query;
 
@@ -14,50 +15,12 @@ pub fn collect_part<'a>(
     out: &'a mut [u32],
     number: &mut u32,
     steps: &mut u32,
-    first: &[u32],
-    cells: &[u32],
-    count: &[u32],
-    next: &[u32],
-    readers: &[u32],
-    owners: &[u32],
-    xs: &[u32],
-    ys: &[u32],
+    words: &[u32],
     times: &[i32],
-    oids: &[u32],
-    locks: &[u32],
-    current: &[u32],
-    previous: &[u32],
-    pool: &[u32],
-    hits: &[u32],
-    hitxs: &[u32],
-    hitys: &[u32],
-    clock: &u32,
 ) -> &'a mut [u32]
-    ensures { λ r. ⌜ collectPart (gridTables (now (first .entry)) (now (cells .entry)) (now (count .entry)) (now (next .entry)) (now (readers .entry)) (now (owners .entry)) (now (xs .entry)) (now (ys .entry)) (now (times .entry)) (now (oids .entry)) (now (locks .entry)) (now (current .entry)) (now (previous .entry)) (now (pool .entry)) (now (hits .entry)) (now (hitxs .entry)) (now (hitys .entry)) (now (clock .entry))) queries lane (now (out .entry)) ≡ partedOf (now (number .exit)) (now (steps .exit)) (now r) ⌝ }
+    ensures { λ r. ⌜ collectPart (grid (old words) (old times)) queries lane (now (out .entry)) ≡ partedOf (new number) (new steps) (now r) ⌝ }
 {
-    let done = collect(
-        queries,
-        lane,
-        out,
-        first,
-        cells,
-        count,
-        next,
-        readers,
-        owners,
-        xs,
-        ys,
-        times,
-        oids,
-        locks,
-        current,
-        previous,
-        pool,
-        hits,
-        hitxs,
-        hitys,
-        clock,
-    );
+    let done = collect(queries, lane, out, words, times);
     *number = done.number;
     *steps = done.steps;
     let filled = done.filled;

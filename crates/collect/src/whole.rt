@@ -1,10 +1,17 @@
 // COLLECTION, the public operation.
 ghost use mathlib.Core.Path.{_≡_};
-ghost use Rattle.calls.specs.Call.{gridTables};
-ghost use Rattle.collect.specs.Filling.{fillingOf, collectInto};
-use crate::handing::hand_over;
+ghost use Rattle.collect.specs.Collect.{idled};
+ghost use Rattle.collect.specs.Promise.{Collects};
+ghost use Rattle.tables.specs.Promise.{OnGrid};
+use crate::admission::Admission;
+use crate::admission::admit;
+use crate::entries::write_entries;
+use base::LIST_SIZE;
 use query::Query;
-use tables::lengths::right_all;
+use query::Scan;
+use tables::lengths::right_words;
+use words::CLOCK;
+use words::HITS;
 
 // The number that a collection gives (document 01), the steps of the query, how many numbers of the lent list are filled, and the queries afterwards.
 pub struct Collected {
@@ -14,51 +21,52 @@ pub struct Collected {
     pub queries: [Query; 4],
 }
 
-// Hands back the list of the finished query in a lane: three numbers for each entry, over the front of the caller's list.
-// Gives 0, or is refused with 12 (lengths), 1, 3, 10, 11 or 12 (the number of hits). The filled part is `out[..filled]`.
+// A query that is over. Question, stamp, hits and steps stay as they are.
+fn idle(q: Query) -> Query
+    ensures { λ r. ⌜ r ≡ idled q ⌝ }
+{
+    let question = q.question;
+    Query {
+        question,
+        stamp: q.stamp,
+        hits: q.hits,
+        steps: q.steps,
+        stage: Scan::Idle,
+    }
+}
+
+// Hands back the list of the finished query in a lane: three numbers for each entry, over the front of the caller's list, and the lane is idled.
+// Gives 0, or is refused with 12 (lengths), 1, 3, 10, 11 or 12 (the number of hits), which leaves everything as it is. The filled part is `out[..filled]`.
 pub fn collect(
     queries: [Query; 4],
     lane: u32,
     out: &mut [u32],
-    first: &[u32],
-    cells: &[u32],
-    count: &[u32],
-    next: &[u32],
-    readers: &[u32],
-    owners: &[u32],
-    xs: &[u32],
-    ys: &[u32],
+    words: &[u32],
     times: &[i32],
-    oids: &[u32],
-    locks: &[u32],
-    current: &[u32],
-    previous: &[u32],
-    pool: &[u32],
-    hits: &[u32],
-    hitxs: &[u32],
-    hitys: &[u32],
-    clock: &u32,
 ) -> Collected
-    ensures { λ r. ⌜ collectInto (gridTables (now (first .entry)) (now (cells .entry)) (now (count .entry)) (now (next .entry)) (now (readers .entry)) (now (owners .entry)) (now (xs .entry)) (now (ys .entry)) (now (times .entry)) (now (oids .entry)) (now (locks .entry)) (now (current .entry)) (now (previous .entry)) (now (pool .entry)) (now (hits .entry)) (now (hitxs .entry)) (now (hitys .entry)) (now (clock .entry))) queries lane (now (out .entry)) ≡ fillingOf (r .number) (gridTables (now (first .entry)) (now (cells .entry)) (now (count .entry)) (now (next .entry)) (now (readers .entry)) (now (owners .entry)) (now (xs .entry)) (now (ys .entry)) (now (times .entry)) (now (oids .entry)) (now (locks .entry)) (now (current .entry)) (now (previous .entry)) (now (pool .entry)) (now (hits .entry)) (now (hitxs .entry)) (now (hitys .entry)) (now (clock .entry))) (r .queries) (r .steps) (r .filled) (now (out .exit)) ⌝ }
+    ensures { λ r. ⌜ OnGrid words times (Collects queries lane out r) ⌝ }
 {
-    let right = right_all(
-        first.len(),
-        cells.len(),
-        count.len(),
-        next.len(),
-        readers.len(),
-        owners.len(),
-        xs.len(),
-        ys.len(),
-        times.len(),
-        oids.len(),
-        locks.len(),
-        current.len(),
-        previous.len(),
-        pool.len(),
-        hits.len(),
-        hitxs.len(),
-        hitys.len(),
-    );
-    hand_over(right, queries, lane, out, hits, hitxs, hitys)
+    let right = right_words(words.len(), times.len());
+    let admission = admit(right, queries, lane, out.len());
+    match admission {
+        Admission::Refused(number) => Collected {
+            number,
+            steps: 0,
+            filled: 0,
+            queries,
+        },
+        Admission::Accepted(q) => {
+            let at = lane as usize;
+            let size = q.hits as usize;
+            write_entries(&words[HITS..CLOCK], LIST_SIZE * at, size, out);
+            let mut after = queries;
+            after[at] = idle(q);
+            Collected {
+                number: 0,
+                steps: q.steps,
+                filled: 3 * size,
+                queries: after,
+            }
+        }
+    }
 }

@@ -1,28 +1,37 @@
--- How stage 12 goes on, by the end of the search and the answer of shift_place: one law for each way.
+-- Stage 12 on all tables: one law for each way, by the end of the search and the answer of shift_entry.
 -- The code looks at the cell before the places are shifted, the definition afterwards. A shift is never blocked, so the refusal is the same.
-use mathlib.Core.Path.{_≡_, refl, ap}
+use mathlib.Core.Path.{_≡_, refl, sym, ap, _∙_}
 use mathlib.Core.Bool.{Bool, true, false}
 use mathlib.Core.Option.{Option, none, some}
 use mathlib.Core.List.{List}
-use Prim.Native.Nat.{ℕ, _≤_}
-use lib.ListN.{length}
-use borrow.Author.Tests.{le-ltb}
-use Rattle.base.specs.Outcome.{Outcome, corrupt, done, need, pick, andThen, says, ended, ended-corrupt, ended-done}
-use Rattle.base.specs.Table.{both}
+use Prim.Native.Nat.{ℕ, _≤_, _<_}
+use native.Mathlib.Omega.{arith}
+use lib.IntN.{ℤ}
+use lib.ListN.{length, set}
+use borrow.Author.Tests.{le-ltb, lt-ltb}
+use Rattle.base.specs.Outcome.{Told, Outcome, corrupt, blocked, done, need, pick, andThen, tells, leaves, ended, ended-corrupt, ended-done}
+use Rattle.base.specs.Step.{said, turned}
+use Rattle.words.specs.Map.{CELLS, WORDS}
+use Rattle.words.specs.Words.{indexIn, putIndex}
+use Rattle.words.proofs.Parts.{part-length}
 use Rattle.layout.specs.Place.{encode, decode, placeValues, placeReadSays}
 use Rattle.layout.specs.declared.place.Place.{Place}
 use Rattle.layout.specs.declared.place.PlaceRead.{PlaceRead}
-use Rattle.layout.specs.declared.place.PlaceRead.the-variants.{Corrupt}
+use Rattle.layout.specs.declared.place.PlaceRead.the-variants.{Corrupt, Nowhere, At}
 use Rattle.layout.proofs.Answers.{place-values, no-values}
 use Rattle.locks.specs.Lock.{release}
 use Rattle.index.specs.Search.{search as sought}
-use Rattle.index.specs.Places.{Shifted, shift}
+use Rattle.index.specs.Index.{Index, indexAt}
+use Rattle.index.specs.Places.{Shifted, shift, shiftIn, putShifted}
 use Rattle.index.specs.declared.search.Search.the-variants.{Found, Empty}
-use Rattle.base.specs.Step.{Said, turned, turnTells, turnLeaves}
-use Rattle.stage.specs.Turn.{turnSays, advance, atEntry}
-use Rattle.stage.specs.declared.Stage.{Stage}
-use Rattle.stage.specs.declared.Turn.{Turn}
-use Rattle.commit.specs.Commit.{Switching, switchingOf, afterSwitching, stage12}
+use Rattle.tables.specs.Tables.{Tables, withIndex}
+use Rattle.tables.specs.Grid.{grid}
+use Rattle.tables.proofs.Grid.{put-index}
+use Rattle.base.proofs.Turns.{halts, moves}
+use Rattle.stage.specs.Turn.{atEntry}
+use Rattle.stage.specs.declared.Stage.the-variants.{DeleteOld, ReleaseObject}
+use Rattle.commit.specs.Commit.{switchingOf, afterSwitching, stage12}
+use Rattle.commit.specs.On.{putPlaces, freed, switchingIn, putSwitching, stage12On}
 
 -- an outcome that is not blocked
 data Settled {A : Type 0} : Outcome A → Type 0 where
@@ -55,51 +64,66 @@ unfolding shift decode encode
 settled-shift current previous i p =
     settled-need _ (settled-need _ (settled-then (settled-need _ (settled-pick _ came came)) (λ old. settled-then (settled-need _ (settled-need _ (settled-need _ came))) (λ n. came))))
 
--- ---- what shift_place answered
+-- ---- the tables in the words
 
--- values tell which place it is, or that it is none
-same-place : (a b : Option Place) → placeValues a ≡ placeValues b → a ≡ b
-same-place a none e = no-values a e
-same-place a (some p) e = place-values a p e
+module _ (w : List ℕ) (ts : List ℤ) (w# : length w ≡ WORDS) where
+  pub cells-there : length (grid w ts .cells) ≡ 256
+  unfolding grid
+  cells-there = part-length w CELLS 256 (omega arith)
 
-module _ (current previous c p : List ℕ) (o : Outcome Shifted) (r : PlaceRead) (e : ended (λ (s : Shifted). placeValues (s .old)) (λ (s : Shifted). both (s .current) (s .previous)) (both current previous) o ≡ (placeReadSays r, both c p)) where
-  pub shifted-corrupt : r ≡ Corrupt → (o ≡ corrupt) × (c ≡ current) × (p ≡ previous)
-  shifted-corrupt q =
-      let d = ended-corrupt (λ (s : Shifted). placeValues (s .old)) (λ (s : Shifted). both (s .current) (s .previous)) (both current previous) (both c p) o (rw q at e) in
-      (d .0, ap (λ (t : List ℕ × List ℕ). t .0) (d .1), ap (λ (t : List ℕ × List ℕ). t .1) (d .1))
+leaves-places : (t : Tables) (o : Outcome Shifted) → leaves (putPlaces t) t o ≡ withIndex t (leaves (putShifted (t .index)) (t .index) o)
+unfolding leaves
+leaves-places t corrupt = refl
+leaves-places t blocked = refl
+leaves-places t (done s) = refl
 
-  pub shifted-done : (old : Option Place) → placeReadSays r ≡ says 0 (placeValues old) → o ≡ done (record { old = old; current = c; previous = p })
-  shifted-done old q =
-      let d = ended-done (λ (s : Shifted). placeValues (s .old)) (λ (s : Shifted). both (s .current) (s .previous)) (both current previous) (both c p) o (rw q at e) in
-      let a : d .0 .old ≡ old = same-place (d .0 .old) old (d .2) in
-      let same : d .0 ≡ record { old = old; current = c; previous = p } = λ i. record { old = a i; current = d .3 i .0; previous = d .3 i .1 } in
-      rw (d .1) (ap done same)
+-- what was shifted in the index is so among all tables
+pub shifted-on : (w : List ℕ) (ts : List ℤ) → length w ≡ WORDS → (o : Outcome Shifted) (s : Told) (v : List ℕ) → length v ≡ 2048 → ended (λ (d : Shifted). placeValues (d .old)) (putShifted (indexAt (indexIn w))) (indexAt (indexIn w)) o ≡ (s, indexAt v) → ended (λ (d : Shifted). placeValues (d .old)) (putPlaces (grid w ts)) (grid w ts) o ≡ (s, grid (putIndex w v) ts)
+unfolding grid
+shifted-on w ts w# o s v v# e =
+    ap (λ (t : Tables). (tells (λ (d : Shifted). placeValues (d .old)) o, t)) (leaves-places (grid w ts) o)
+    ∙ ap (λ (p : Told × Index). (p .0, withIndex (grid w ts) (p .1))) e
+    ∙ ap (λ (t : Tables). (s, t)) (sym (put-index w ts w# v v#))
 
 -- ---- the stage
 
-module _ (oids : List ℕ) (d : Switching) (p : Place) (k : ℕ) where
-  pub switch-missing : {i : ℕ} → sought oids k ≡ Empty i → stage12 oids d p k ≡ corrupt
-  unfolding stage12 atEntry
-  switch-missing s = rw s
+module _ (t : Tables) (p : Place) (k : ℕ) where
+  pub switch-missing : {i : ℕ} → sought (t .index .oid) k ≡ Empty i → turned t (stage12On t p k) ≡ (said 12 none, t)
+  unfolding stage12On stage12 atEntry
+  switch-missing s = halts (putSwitching t) t (stage12 (t .index .oid) (switchingIn t) p k) t (rw s) refl
 
-  module _ {i : ℕ} (s : sought oids k ≡ Found i) where
+  module _ {i : ℕ} (s : sought (t .index .oid) k ≡ Found i) (c# : length (t .cells) ≡ 256) where
     -- the cell is out of range
-    pub switch-far : length (d .cells) ≤ p .cell → stage12 oids d p k ≡ corrupt
-    unfolding stage12 atEntry release need andThen
-    switch-far h = rw s (settled-refused (settled-shift _ _ _ _) (λ a. rw (le-ltb _ _ h)))
+    pub switch-far : 256 ≤ p .cell → turned t (stage12On t p k) ≡ (said 12 none, t)
+    unfolding stage12On stage12 atEntry release need andThen
+    switch-far h =
+        halts (putSwitching t) t (stage12 (t .index .oid) (switchingIn t) p k) t
+        (rw s (settled-refused (settled-shift _ _ _ _) (λ a. rw (c#, le-ltb _ _ h)))) refl
 
-    pub switch-corrupt : shift (d .current) (d .previous) i p ≡ corrupt → stage12 oids d p k ≡ corrupt
-    unfolding stage12 atEntry andThen
-    switch-corrupt e = rw (s, e)
+    lost : shiftIn (t .index) i p ≡ corrupt → (t′ : Tables) → t′ ≡ t → turned t (stage12On t p k) ≡ (said 12 none, t′)
+    unfolding stage12On stage12 atEntry andThen
+    lost e t′ q = halts (putSwitching t) t (stage12 (t .index .oid) (switchingIn t) p k) t′ (rw (s, e)) q
 
     -- the places were shifted: the cell is released, and what comes next is told by the old place
-    pub switch-done : (old : Option Place) (c′ p′ : List ℕ) → shift (d .current) (d .previous) i p ≡ done (record { old = old; current = c′; previous = p′ }) → stage12 oids d p k ≡ andThen (release (d .cells) (p .cell)) (λ l. advance (afterSwitching old) (switchingOf c′ p′ l))
-    unfolding stage12 atEntry andThen
-    switch-done old c′ p′ e = rw (s, e)
+    went : (old : Option Place) (a : Shifted) → shiftIn (t .index) i p ≡ done a → a .old ≡ old → p .cell < 256 → (u : Tables) → putPlaces t a ≡ u → (t′ : Tables) → t′ ≡ freed u (p .cell) → turned t (stage12On t p k) ≡ (said 0 (some (afterSwitching old)), t′)
+    unfolding stage12On stage12 atEntry release need andThen
+    went old a e f h u m t′ q =
+        moves (putSwitching t) t (stage12 (t .index .oid) (switchingIn t) p k) t′ 0 (afterSwitching old) (switchingOf (a .current) (a .previous) (set (t .cells) (p .cell) 0))
+        (rw (s, e, f, c#, lt-ltb (p .cell) 256 h)) (q ∙ ap (λ (v : Tables). freed v (p .cell)) (sym m))
 
--- what was released alone is released so beside the other tables
-pub beside : (d : Switching) (l l′ : List ℕ) (o : Outcome (List ℕ)) (c′ p′ : List ℕ) (next : Stage) (r : Turn) → o ≡ done l′ → turned (d .cells) (andThen o (λ m. advance next m)) ≡ (turnSays r, l) → turned d (andThen o (λ m. advance next (switchingOf c′ p′ m))) ≡ (turnSays r, switchingOf c′ p′ l)
-unfolding andThen turnTells turnLeaves
-beside d l l′ o c′ p′ next r e h =
-    let h′ = rw e at h in
-    rw e (ap (λ (q : Said Stage × List ℕ). (q .0, switchingOf c′ p′ (q .1))) h′)
+    -- as shift_entry answers; u: the tables when the places are shifted, and the cell is not free yet
+    module _ (u : Tables) {r : PlaceRead} (e : ended (λ (d : Shifted). placeValues (d .old)) (putPlaces t) t (shiftIn (t .index) i p) ≡ (placeReadSays r, u)) where
+      pub switch-lost : r ≡ Corrupt → turned t (stage12On t p k) ≡ (said 12 none, u)
+      switch-lost q =
+          let d = ended-corrupt (λ (d : Shifted). placeValues (d .old)) (putPlaces t) t u (shiftIn (t .index) i p) (rw q at e) in
+          lost (d .0) u (d .1)
+
+      pub switch-nowhere : r ≡ Nowhere → p .cell < 256 → (t′ : Tables) → t′ ≡ freed u (p .cell) → turned t (stage12On t p k) ≡ (said 0 (some ReleaseObject), t′)
+      switch-nowhere q h t′ z =
+          let d = ended-done (λ (d : Shifted). placeValues (d .old)) (putPlaces t) t u (shiftIn (t .index) i p) (rw q at e) in
+          went none (d .0) (d .1) (no-values (d .0 .old) (d .2)) h u (d .3) t′ z
+
+      pub switch-at : (o : Place) → r ≡ At o → p .cell < 256 → (t′ : Tables) → t′ ≡ freed u (p .cell) → turned t (stage12On t p k) ≡ (said 0 (some (DeleteOld o)), t′)
+      switch-at o q h t′ z =
+          let d = ended-done (λ (d : Shifted). placeValues (d .old)) (putPlaces t) t u (shiftIn (t .index) i p) (rw q at e) in
+          went (some o) (d .0) (d .1) (place-values (d .0 .old) o (d .2)) h u (d .3) t′ z

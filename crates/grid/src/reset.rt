@@ -1,16 +1,33 @@
-// The empty grid (document 01: a fresh deck).
+// The empty grid (document 01: a fresh deck), over the words and the stamps.
 ghost use mathlib.Core.Path.{_≡_};
-ghost use Rattle.calls.specs.Call.{gridTables, after, afterOf};
-ghost use Rattle.grid.specs.Grid.{lanesOf, resetGrid};
+ghost use mathlib.Core.List.{List};
+ghost use lib.IntN.{ℤ};
+ghost use lib.ListN.{length};
+ghost use Rattle.tables.specs.Tables.{withTimes, emptyTables};
+ghost use Rattle.tables.specs.Grid.{grid};
+ghost use Rattle.tables.specs.Promise.{OnGrid};
+ghost use Rattle.grid.specs.Promise.{Resets};
+ghost use Rattle.words.specs.Map.{WORDS};
+ghost use Rattle.base.specs.Lent.{new};
 use base::Change;
-use layout::question::Question;
+use base::NO_BUCKET;
+use layout::place::NOWHERE;
+use pool::refill_pool;
+use queries::lanes::idle_queries;
 use query::Query;
-use query::Scan;
-use stage::Stage;
 use stage::Updater;
 use tables::fill::clear_times;
 use tables::fill::fill_numbers;
-use tables::lengths::right_all;
+use tables::lengths::right_words;
+use updates::lanes::idle_updaters;
+use words::COUNT;
+use words::CURRENT;
+use words::FIRST;
+use words::HITS;
+use words::NEXT;
+use words::POOL;
+use words::READERS;
+use words::WORDS;
 
 // The number that reset gives (document 01), and the lanes afterwards.
 pub struct Fresh {
@@ -19,102 +36,43 @@ pub struct Fresh {
     pub queries: [Query; 4],
 }
 
-// Makes the tables an empty grid and every lane idle. Gives 0, or 12 where a table has a wrong length.
+// Fills the words with those of an empty grid.
+fn empty_words(words: &mut [u32])
+    requires { ⌜ length (now words) ≡ WORDS ⌝ }
+    ensures { λ r. ⌜ ((ts : List ℤ) → grid (new words) ts ≡ withTimes emptyTables ts) ⌝ }
+{
+    fill_numbers(words, 0);
+    fill_numbers(&mut words[FIRST..COUNT], NO_BUCKET);
+    fill_numbers(&mut words[NEXT..READERS], NO_BUCKET);
+    fill_numbers(&mut words[CURRENT..HITS], NOWHERE);
+    let Change::Done = refill_pool(&mut words[POOL..WORDS]) else {
+        return;
+    };
+}
+
+// Makes the tables an empty grid and every lane idle. Gives 0, or 12 where there are too many or too few words or stamps.
 pub fn reset(
     updaters: [Updater; 8],
     queries: [Query; 4],
-    first: &mut [u32],
-    cells: &mut [u32],
-    count: &mut [u32],
-    next: &mut [u32],
-    readers: &mut [u32],
-    owners: &mut [u32],
-    xs: &mut [u32],
-    ys: &mut [u32],
+    words: &mut [u32],
     times: &mut [i32],
-    oids: &mut [u32],
-    locks: &mut [u32],
-    current: &mut [u32],
-    previous: &mut [u32],
-    pool: &mut [u32],
-    hits: &mut [u32],
-    hitxs: &mut [u32],
-    hitys: &mut [u32],
-    clock: &mut u32,
 ) -> Fresh
-    ensures { λ r. ⌜ after (gridTables (now (first .entry)) (now (cells .entry)) (now (count .entry)) (now (next .entry)) (now (readers .entry)) (now (owners .entry)) (now (xs .entry)) (now (ys .entry)) (now (times .entry)) (now (oids .entry)) (now (locks .entry)) (now (current .entry)) (now (previous .entry)) (now (pool .entry)) (now (hits .entry)) (now (hitxs .entry)) (now (hitys .entry)) (now (clock .entry))) (lanesOf updaters queries) (resetGrid (gridTables (now (first .entry)) (now (cells .entry)) (now (count .entry)) (now (next .entry)) (now (readers .entry)) (now (owners .entry)) (now (xs .entry)) (now (ys .entry)) (now (times .entry)) (now (oids .entry)) (now (locks .entry)) (now (current .entry)) (now (previous .entry)) (now (pool .entry)) (now (hits .entry)) (now (hitxs .entry)) (now (hitys .entry)) (now (clock .entry)))) ≡ afterOf (r .number) (gridTables (now (first .exit)) (now (cells .exit)) (now (count .exit)) (now (next .exit)) (now (readers .exit)) (now (owners .exit)) (now (xs .exit)) (now (ys .exit)) (now (times .exit)) (now (oids .exit)) (now (locks .exit)) (now (current .exit)) (now (previous .exit)) (now (pool .exit)) (now (hits .exit)) (now (hitxs .exit)) (now (hitys .exit)) (now (clock .exit))) (lanesOf (r .updaters) (r .queries)) ⌝ }
+    ensures { λ r. ⌜ OnGrid words times (Resets updaters queries r) ⌝ }
 {
-    if !right_all(
-        first.len(),
-        cells.len(),
-        count.len(),
-        next.len(),
-        readers.len(),
-        owners.len(),
-        xs.len(),
-        ys.len(),
-        times.len(),
-        oids.len(),
-        locks.len(),
-        current.len(),
-        previous.len(),
-        pool.len(),
-        hits.len(),
-        hitxs.len(),
-        hitys.len(),
-    ) {
+    if !right_words(words.len(), times.len()) {
         return Fresh {
             number: 12,
             updaters,
             queries,
         };
     }
-    let Change::Done = pool::refill_pool(pool) else {
-        return Fresh {
-            number: 12,
-            updaters,
-            queries,
-        };
-    };
-    fill_numbers(first, 512);
-    fill_numbers(cells, 0);
-    fill_numbers(count, 0);
-    fill_numbers(next, 512);
-    fill_numbers(readers, 0);
-    fill_numbers(owners, 0);
-    fill_numbers(xs, 0);
-    fill_numbers(ys, 0);
-    fill_numbers(oids, 0);
-    fill_numbers(locks, 0);
-    fill_numbers(current, 524288);
-    fill_numbers(previous, 524288);
-    fill_numbers(hits, 0);
-    fill_numbers(hitxs, 0);
-    fill_numbers(hitys, 0);
+    empty_words(words);
     clear_times(times);
-    *clock = 0;
-    let update = Updater {
-        oid: 0,
-        x: 0,
-        y: 0,
-        stage: Stage::Idle,
-    };
-    let question = Question {
-        x0: 0,
-        y0: 0,
-        x1: 0,
-        y1: 0,
-    };
-    let query = Query {
-        question,
-        stamp: 0,
-        hits: 0,
-        steps: 0,
-        stage: Scan::Idle,
-    };
+    let updaters = idle_updaters();
+    let queries = idle_queries();
     Fresh {
         number: 0,
-        updaters: [update; 8],
-        queries: [query; 4],
+        updaters,
+        queries,
     }
 }

@@ -1,12 +1,15 @@
 -- The results of range queries (document 01: the lists of the sweeps): object, x and y of each hit. The list of query l begins at entry 256 × l.
 -- Crates above use the laws of proofs/Look.antt and do not unfold `lookFrom`.
+use mathlib.Core.Path.{_≡_}
 use mathlib.Core.Option.{Option, none, some}
 use mathlib.Core.List.{List, []}
 use Prim.Native.Nat.{ℕ, zero, suc, _+_, _*_}
 use lib.Dec.{eqb, ltb, leb}
 use lib.ListN.{set}
-use Rattle.base.specs.Outcome.{Told, says, Outcome, done, need, pick, one}
+use Rattle.base.specs.Outcome.{Told, says, Outcome, done, need, pick, one, ended}
 use Rattle.base.specs.Table.{at}
+use Rattle.words.specs.Map.{HIT-XS, HIT-YS}
+use Rattle.words.specs.Part.{part}
 use Rattle.slots.specs.declared.tuple.Seen.{Seen}
 use Rattle.hits.specs.declared.Listed.{Listed}
 use Rattle.hits.specs.declared.Listed.the-variants.{Missing, At}
@@ -20,6 +23,10 @@ pub record Hits : Type 0 where
 
 abbrev pub hitsOf : List ℕ → List ℕ → List ℕ → Hits
 hitsOf o x y = record { oid = o; x = x; y = y }
+
+-- the three tables in one list of 3,072 numbers
+abbrev pub hitsAt : List ℕ → Hits
+hitsAt l = hitsOf (part 0 1024 l) (part HIT-XS 1024 l) (part HIT-YS 1024 l)
 
 -- a tuple's object and place at an entry
 abbrev pub putHit : Hits → ℕ → Seen → Hits
@@ -63,3 +70,7 @@ sizeOf d = one (d .size)
 abbrev pub notedSays : Noted → Told
 notedSays Corrupt = says 12 []
 notedSays (Size n) = says 0 (one n)
+
+-- the promise of noting a tuple: r is the size of the list afterwards
+abbrev pub Notes : (Hits → Outcome Listing) → Noted → Hits → Hits → Type 0
+Notes f r h h′ = ended sizeOf (λ (d : Listing). d .hits) h (f h) ≡ (notedSays r, h′)

@@ -1,11 +1,15 @@
 // The results of range queries (document 01: the lists of the sweeps): object, x and y of each hit, 256 entries for each of four queries.
-// Tables: object, x and y (1,024 each), the list of query l from entry 256 × l on. The lengths are the caller's to check.
+// One list of three columns, objects, x and y, of 1,024 numbers each, those of query l from entry 256 × l on. Its length is the caller's to check.
 ghost use mathlib.Core.Path.{_≡_};
 ghost use Prim.Native.Nat.{_<_, _≤_, _+_};
 ghost use lib.ListN.{length};
-ghost use Rattle.base.specs.Outcome.{says, ended};
-ghost use Rattle.hits.specs.Hits.{Listing, hitsOf, putHit, lookFrom, listedValues, listedSays, note, sizeOf, notedSays};
+ghost use Rattle.base.specs.Lent.{old, new};
+ghost use Rattle.base.specs.Outcome.{says};
+ghost use Rattle.hits.specs.Hits.{hitsAt, putHit, lookFrom, listedValues, listedSays, note, Notes};
+ghost use Rattle.words.specs.Map.{HITS-SIZE};
 use slots::tuple::Seen;
+use words::HIT_XS;
+use words::HIT_YS;
 
 // Where an object stands in a list, if it does.
 pub enum Listed {
@@ -22,7 +26,7 @@ pub enum Noted {
 // Looks an object up in size entries from one on. It goes past all of them, from the last to the first, so that the first that matches is meant.
 pub fn find_hit(hits: &[u32], from: usize, size: usize, oid: u32) -> Listed
     requires { ⌜ (length (now hits) ≡ 1024) × (from + size ≤ 1024) ⌝ }
-    ensures { λ r. ⌜ says 0 (listedValues (lookFrom (now (hits .entry)) oid size from)) ≡ listedSays r ⌝ }
+    ensures { λ r. ⌜ says 0 (listedValues (lookFrom (old hits) oid size from)) ≡ listedSays r ⌝ }
 {
     let mut found: usize = 1024;
     let mut left = size;
@@ -39,42 +43,35 @@ pub fn find_hit(hits: &[u32], from: usize, size: usize, oid: u32) -> Listed
 }
 
 // Writes a tuple's object and place over an entry.
-fn put_hit(hits: &mut [u32], hitxs: &mut [u32], hitys: &mut [u32], at: usize, t: Seen)
-    requires { ⌜ (length (now hits) ≡ 1024) × (length (now hitxs) ≡ 1024) × (length (now hitys) ≡ 1024) × (at < 1024) ⌝ }
-    ensures { λ r. ⌜ putHit (hitsOf (now (hits .entry)) (now (hitxs .entry)) (now (hitys .entry))) at t ≡ hitsOf (now (hits .exit)) (now (hitxs .exit)) (now (hitys .exit)) ⌝ }
+fn put_hit(list: &mut [u32], at: usize, t: Seen)
+    requires { ⌜ (length (now list) ≡ HITS-SIZE) × (at < 1024) ⌝ }
+    ensures { λ r. ⌜ putHit (hitsAt (old list)) at t ≡ hitsAt (new list) ⌝ }
 {
-    hits[at] = t.oid;
-    hitxs[at] = t.x;
-    hitys[at] = t.y;
+    list[at] = t.oid;
+    list[HIT_XS + at] = t.x;
+    list[HIT_YS + at] = t.y;
 }
 
 // Notes a tuple in a query's list: a current one is added or replaces its object's entry, a deleted one is added if its object is not listed.
-pub fn note_tuple(
-    hits: &mut [u32],
-    hitxs: &mut [u32],
-    hitys: &mut [u32],
-    lane: u32,
-    size: u32,
-    t: Seen,
-) -> Noted
-    requires { ⌜ (length (now hits) ≡ 1024) × (length (now hitxs) ≡ 1024) × (length (now hitys) ≡ 1024) × (lane < 4) ⌝ }
-    ensures { λ r. ⌜ ended sizeOf (λ (d : Listing). d .hits) (hitsOf (now (hits .entry)) (now (hitxs .entry)) (now (hitys .entry))) (note (hitsOf (now (hits .entry)) (now (hitxs .entry)) (now (hitys .entry))) lane size t) ≡ (notedSays r, hitsOf (now (hits .exit)) (now (hitxs .exit)) (now (hitys .exit))) ⌝ }
+pub fn note_tuple(list: &mut [u32], lane: u32, size: u32, t: Seen) -> Noted
+    requires { ⌜ (length (now list) ≡ HITS-SIZE) × (lane < 4) ⌝ }
+    ensures { λ r. ⌜ Notes (λ h. note h lane size t) r (hitsAt (old list)) (hitsAt (new list)) ⌝ }
 {
     if size > 256 {
         return Noted::Corrupt;
     }
     let from = (256 * lane) as usize;
-    let listed = find_hit(hits, from, size as usize, t.oid);
+    let listed = find_hit(&list[0..HIT_XS], from, size as usize, t.oid);
     let Listed::At(i) = listed else {
         if size >= 256 {
             return Noted::Corrupt;
         }
-        put_hit(hits, hitxs, hitys, from + size as usize, t);
+        put_hit(list, from + size as usize, t);
         return Noted::Size(size + 1);
     };
     if t.deleted {
         return Noted::Size(size);
     }
-    put_hit(hits, hitxs, hitys, i, t);
+    put_hit(list, i, t);
     Noted::Size(size)
 }

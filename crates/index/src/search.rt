@@ -2,12 +2,19 @@
 ghost use mathlib.Core.Path.{_≡_};
 ghost use Prim.Native.Nat.{_<_};
 ghost use lib.ListN.{length};
-ghost use Rattle.base.specs.Outcome.{ended, nothing};
-ghost use Rattle.base.specs.Answer.{changeSays};
-ghost use Rattle.index.specs.Search.{after, find, searchSays, known};
-ghost use Rattle.index.specs.Index.{Index, insert, indexOf};
+ghost use Rattle.base.specs.Lent.{old, new};
+ghost use Rattle.base.specs.Promise.{Changes};
+ghost use Rattle.words.specs.Part.{part};
+ghost use Rattle.index.specs.Search.{after, search, find, searchSays, known};
+ghost use Rattle.index.specs.Index.{indexAt, newEntry, putEntry, insert};
+ghost use Rattle.words.specs.Map.{INDEX-SIZE};
 use crate::hash::start_of;
 use base::Change;
+use base::ENTRY_COUNT;
+use layout::place::NOWHERE;
+use words::INDEX_CURRENT;
+use words::INDEX_LOCKS;
+use words::INDEX_PREVIOUS;
 
 // Where a search ended: at the object's entry, or at an empty one. A search that wrapped ends at its start, whose entry is not empty.
 pub enum Search {
@@ -28,11 +35,11 @@ fn next_entry(i: usize) -> usize
 // Goes from entry to entry until the object or an empty one.
 pub fn find_object(oids: &[u32], oid: u32) -> Search
     requires { ⌜ length (now oids) ≡ 512 ⌝ }
-    ensures { λ r. ⌜ searchSays r ≡ find (now (oids .entry)) oid ⌝ }
+    ensures { λ r. ⌜ searchSays r ≡ find (old oids) oid ⌝ }
 {
     let s = start_of(oid) as usize;
     let mut i = s;
-    let mut left: usize = 512;
+    let mut left: usize = ENTRY_COUNT;
     while left > 0 {
         let o = oids[i];
         if o == 0 {
@@ -47,34 +54,44 @@ pub fn find_object(oids: &[u32], oid: u32) -> Search
     Search::Empty(s)
 }
 
-// Enters an object without places and with its lock free; leaves a known one as it is.
-pub fn enter_object(
-    oids: &mut [u32],
-    locks: &mut [u32],
-    current: &mut [u32],
-    previous: &mut [u32],
-    oid: u32,
-) -> Change
-    requires { ⌜ (length (now oids) ≡ 512) × (length (now locks) ≡ 512) × (length (now current) ≡ 512) × (length (now previous) ≡ 512) ⌝ }
-    ensures { λ r. ⌜ ended nothing (λ (d : Index). d) (indexOf (now (oids .entry)) (now (locks .entry)) (now (current .entry)) (now (previous .entry))) (insert (indexOf (now (oids .entry)) (now (locks .entry)) (now (current .entry)) (now (previous .entry))) oid) ≡ (changeSays r, indexOf (now (oids .exit)) (now (locks .exit)) (now (current .exit)) (now (previous .exit))) ⌝ }
+// Writes a new entry: the object without places, its lock free.
+fn put_new(index: &mut [u32], at: usize, oid: u32)
+    requires { ⌜ (length (now index) ≡ INDEX-SIZE) × (at < 512) ⌝ }
+    ensures { λ r. ⌜ putEntry (indexAt (old index)) at oid newEntry ≡ indexAt (new index) ⌝ }
 {
-    let s = find_object(oids, oid);
+    index[at] = oid;
+    index[INDEX_LOCKS + at] = 0;
+    index[INDEX_CURRENT + at] = NOWHERE;
+    index[INDEX_PREVIOUS + at] = NOWHERE;
+}
+
+// Enters an object where the search for it ended, without places and with its lock free; leaves a known one as it is.
+pub fn enter_at(index: &mut [u32], s: Search, oid: u32) -> Change
+    requires { ⌜ (length (now index) ≡ INDEX-SIZE) × (s ≡ search (part 0 512 (now index)) oid) ⌝ }
+    ensures { λ r. ⌜ Changes (indexAt (old index)) (λ d. insert d oid) r (indexAt (new index)) ⌝ }
+{
     let Search::Empty(i) = s else {
         return Change::Done;
     };
-    if oids[i] != 0 {
+    if index[i] != 0 {
         return Change::Corrupt;
     }
-    oids[i] = oid;
-    locks[i] = 0;
-    current[i] = 524288;
-    previous[i] = 524288;
+    put_new(index, i, oid);
     Change::Done
+}
+
+// The same, after a search.
+pub fn enter_object(index: &mut [u32], oid: u32) -> Change
+    requires { ⌜ length (now index) ≡ INDEX-SIZE ⌝ }
+    ensures { λ r. ⌜ Changes (indexAt (old index)) (λ d. insert d oid) r (indexAt (new index)) ⌝ }
+{
+    let s = find_object(&index[0..INDEX_LOCKS], oid);
+    enter_at(index, s, oid)
 }
 
 // How many objects are known.
 pub fn count_known(oids: &[u32]) -> usize
-    ensures { λ r. ⌜ r ≡ known (now (oids .entry)) ⌝ }
+    ensures { λ r. ⌜ r ≡ known (old oids) ⌝ }
 {
     let mut n: usize = 0;
     let mut i = 0;

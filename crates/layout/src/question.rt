@@ -4,6 +4,7 @@ ghost use Rattle.base.specs.Outcome.{tells};
 ghost use Rattle.layout.specs.Question.{corners, cornersSays, inside, visited, firstVisit, lastCell, next, nextCellSays, visitValues};
 use crate::place::cell_of;
 use crate::place::on_grid;
+use base::CELL_COUNT;
 
 // A rectangle by its lower and its upper corner.
 pub struct Question {
@@ -76,7 +77,7 @@ pub fn is_visited(q: Question, cell: u32) -> bool
     let Corners::Accepted = check_corners(q) else {
         return false;
     };
-    if cell >= 256 {
+    if cell >= CELL_COUNT {
         return false;
     }
     if cell % 16 < q.x0 / 1024 {

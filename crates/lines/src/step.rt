@@ -1,8 +1,6 @@
 // ONE LINE of a script on the grid: the call that it asks for, or 13.
-ghost use mathlib.Core.Path.{_≡_};
-ghost use Rattle.calls.specs.Call.{gridTables};
-ghost use Rattle.grid.specs.Run.{gridOf};
-ghost use Rattle.lines.specs.Line.{lineStep, linedOf};
+ghost use Rattle.lines.specs.Promise.{Answers};
+ghost use Rattle.tables.specs.Promise.{OnGrid};
 use collect::whole::collect;
 use queries::start::query_start;
 use queries::step::query_step;
@@ -28,26 +26,10 @@ pub fn line_step(
     out: &mut [u32],
     updaters: [Updater; 8],
     queries: [Query; 4],
-    first: &mut [u32],
-    cells: &mut [u32],
-    count: &mut [u32],
-    next: &mut [u32],
-    readers: &mut [u32],
-    owners: &mut [u32],
-    xs: &mut [u32],
-    ys: &mut [u32],
+    words: &mut [u32],
     times: &mut [i32],
-    oids: &mut [u32],
-    locks: &mut [u32],
-    current: &mut [u32],
-    previous: &mut [u32],
-    pool: &mut [u32],
-    hits: &mut [u32],
-    hitxs: &mut [u32],
-    hitys: &mut [u32],
-    clock: &mut u32,
 ) -> LineStep
-    ensures { λ r. ⌜ lineStep (now (line .entry)) (gridOf (gridTables (now (first .entry)) (now (cells .entry)) (now (count .entry)) (now (next .entry)) (now (readers .entry)) (now (owners .entry)) (now (xs .entry)) (now (ys .entry)) (now (times .entry)) (now (oids .entry)) (now (locks .entry)) (now (current .entry)) (now (previous .entry)) (now (pool .entry)) (now (hits .entry)) (now (hitxs .entry)) (now (hitys .entry)) (now (clock .entry))) updaters queries) (now (out .entry)) ≡ linedOf (r .number) (r .steps) (r .filled) (gridOf (gridTables (now (first .exit)) (now (cells .exit)) (now (count .exit)) (now (next .exit)) (now (readers .exit)) (now (owners .exit)) (now (xs .exit)) (now (ys .exit)) (now (times .exit)) (now (oids .exit)) (now (locks .exit)) (now (current .exit)) (now (previous .exit)) (now (pool .exit)) (now (hits .exit)) (now (hitxs .exit)) (now (hitys .exit)) (now (clock .exit))) (r .updaters) (r .queries)) (now (out .exit)) ⌝ }
+    ensures { λ r. ⌜ OnGrid words times (Answers line out updaters queries r) ⌝ }
 {
     let command = parse(line);
     match command {
@@ -59,31 +41,7 @@ pub fn line_step(
             queries,
         },
         Line::StartUpdate(u) => {
-            let started = update_start(
-                updaters,
-                u.lane,
-                u.oid,
-                u.x,
-                u.y,
-                first,
-                cells,
-                count,
-                next,
-                readers,
-                owners,
-                xs,
-                ys,
-                times,
-                oids,
-                locks,
-                current,
-                previous,
-                pool,
-                hits,
-                hitxs,
-                hitys,
-                clock,
-            );
+            let started = update_start(updaters, u.lane, u.oid, u.x, u.y, words, times);
             let updaters = started.updaters;
             LineStep {
                 number: started.number,
@@ -94,28 +52,7 @@ pub fn line_step(
             }
         }
         Line::StepUpdate(lane) => {
-            let stepped = update_step(
-                updaters,
-                lane,
-                first,
-                cells,
-                count,
-                next,
-                readers,
-                owners,
-                xs,
-                ys,
-                times,
-                oids,
-                locks,
-                current,
-                previous,
-                pool,
-                hits,
-                hitxs,
-                hitys,
-                clock,
-            );
+            let stepped = update_step(updaters, lane, words, times);
             let updaters = stepped.updaters;
             LineStep {
                 number: stepped.number,
@@ -126,32 +63,7 @@ pub fn line_step(
             }
         }
         Line::StartQuery(q) => {
-            let asked = query_start(
-                queries,
-                q.lane,
-                q.x0,
-                q.y0,
-                q.x1,
-                q.y1,
-                first,
-                cells,
-                count,
-                next,
-                readers,
-                owners,
-                xs,
-                ys,
-                times,
-                oids,
-                locks,
-                current,
-                previous,
-                pool,
-                hits,
-                hitxs,
-                hitys,
-                clock,
-            );
+            let asked = query_start(queries, q.lane, q.x0, q.y0, q.x1, q.y1, words, times);
             let queries = asked.queries;
             LineStep {
                 number: asked.number,
@@ -162,28 +74,7 @@ pub fn line_step(
             }
         }
         Line::StepQuery(lane) => {
-            let scanned = query_step(
-                queries,
-                lane,
-                first,
-                cells,
-                count,
-                next,
-                readers,
-                owners,
-                xs,
-                ys,
-                times,
-                oids,
-                locks,
-                current,
-                previous,
-                pool,
-                hits,
-                hitxs,
-                hitys,
-                clock,
-            );
+            let scanned = query_step(queries, lane, words, times);
             let queries = scanned.queries;
             LineStep {
                 number: scanned.number,
@@ -194,29 +85,7 @@ pub fn line_step(
             }
         }
         Line::Collect(lane) => {
-            let collected = collect(
-                queries,
-                lane,
-                out,
-                first,
-                cells,
-                count,
-                next,
-                readers,
-                owners,
-                xs,
-                ys,
-                times,
-                oids,
-                locks,
-                current,
-                previous,
-                pool,
-                hits,
-                hitxs,
-                hitys,
-                clock,
-            );
+            let collected = collect(queries, lane, out, words, times);
             let queries = collected.queries;
             LineStep {
                 number: collected.number,

@@ -1,6 +1,7 @@
 // Locks (document 01: free, or the lane that holds it), one number each: 0 is free, 1 + lane is held.
 // One table has the locks of the cells, one those of the objects.
 ghost use mathlib.Core.Path.{_≡_};
+ghost use Rattle.base.specs.Lent.{old, new};
 ghost use Rattle.base.specs.Outcome.{tells, ended, nothing};
 ghost use Rattle.base.specs.Answer.{attemptSays, changeSays};
 ghost use Rattle.locks.specs.Lock.{look, take, release};
@@ -9,7 +10,7 @@ use base::Change;
 
 // Whether a lock is free. Nothing is stored.
 pub fn look_lock(locks: &[u32], at: usize) -> Attempt
-    ensures { λ r. ⌜ tells nothing (look (now (locks .entry)) at) ≡ attemptSays r ⌝ }
+    ensures { λ r. ⌜ tells nothing (look (old locks) at) ≡ attemptSays r ⌝ }
 {
     if at >= locks.len() {
         return Attempt::Corrupt;
@@ -26,7 +27,7 @@ pub fn look_lock(locks: &[u32], at: usize) -> Attempt
 
 // Takes a lock that is free.
 pub fn take_lock(locks: &mut [u32], at: usize, owner: u32) -> Attempt
-    ensures { λ r. ⌜ ended nothing (λ l. l) (now (locks .entry)) (take (now (locks .entry)) at owner) ≡ (attemptSays r, now (locks .exit)) ⌝ }
+    ensures { λ r. ⌜ ended nothing (λ l. l) (old locks) (take (old locks) at owner) ≡ (attemptSays r, new locks) ⌝ }
 {
     if at >= locks.len() {
         return Attempt::Corrupt;
@@ -44,7 +45,7 @@ pub fn take_lock(locks: &mut [u32], at: usize, owner: u32) -> Attempt
 
 // Frees a lock, whoever held it.
 pub fn release_lock(locks: &mut [u32], at: usize) -> Change
-    ensures { λ r. ⌜ ended nothing (λ l. l) (now (locks .entry)) (release (now (locks .entry)) at) ≡ (changeSays r, now (locks .exit)) ⌝ }
+    ensures { λ r. ⌜ ended nothing (λ l. l) (old locks) (release (old locks) at) ≡ (changeSays r, new locks) ⌝ }
 {
     if at >= locks.len() {
         return Change::Corrupt;

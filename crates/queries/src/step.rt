@@ -1,23 +1,21 @@
 // A step of a query (document 01: sweep step).
-ghost use mathlib.Core.Path.{_≡_};
 ghost use Prim.Native.Nat.{_<_};
-ghost use lib.ListN.{set};
-ghost use Rattle.calls.specs.Call.{gridTables, after, afterOf, nextLanes};
-ghost use Rattle.query.specs.Scan.{progressSays};
-ghost use Rattle.queries.specs.Query.{queryStep};
+ghost use Rattle.queries.specs.Promise.{EndsStep, Steps};
+ghost use Rattle.tables.specs.Promise.{OnGrid};
 use crate::lanes::Swept;
 use crate::lanes::is_finished;
 use crate::lanes::is_idle;
 use crate::lanes::number_of;
 use crate::scanning::scan_step;
+use base::QUERY_COUNT;
 use query::Progress;
 use query::Query;
-use tables::lengths::right_all;
+use tables::lengths::right_words;
 
 // What a step gives, from how it ended.
 fn end_step(queries: [Query; 4], at: usize, progress: Progress) -> Swept
     requires { ⌜ at < 4 ⌝ }
-    ensures { λ r. ⌜ (r .number ≡ progressSays progress .number) × (r .queries ≡ nextLanes queries (set queries at) (progressSays progress .next)) ⌝ }
+    ensures { λ r. ⌜ EndsStep queries at progress r ⌝ }
 {
     match progress {
         Progress::Corrupt => Swept {
@@ -42,55 +40,16 @@ fn end_step(queries: [Query; 4], at: usize, progress: Progress) -> Swept
 }
 
 // One step of the query in a lane. Gives 0, 20 or 22, or is refused with 12 (lengths), 1, 3, 9, or 12 (a stored number).
-pub fn query_step(
-    queries: [Query; 4],
-    lane: u32,
-    first: &[u32],
-    cells: &[u32],
-    count: &[u32],
-    next: &[u32],
-    readers: &mut [u32],
-    owners: &[u32],
-    xs: &[u32],
-    ys: &[u32],
-    times: &[i32],
-    oids: &[u32],
-    locks: &[u32],
-    current: &[u32],
-    previous: &[u32],
-    pool: &[u32],
-    hits: &mut [u32],
-    hitxs: &mut [u32],
-    hitys: &mut [u32],
-    clock: &u32,
-) -> Swept
-    ensures { λ r. ⌜ after (gridTables (now (first .entry)) (now (cells .entry)) (now (count .entry)) (now (next .entry)) (now (readers .entry)) (now (owners .entry)) (now (xs .entry)) (now (ys .entry)) (now (times .entry)) (now (oids .entry)) (now (locks .entry)) (now (current .entry)) (now (previous .entry)) (now (pool .entry)) (now (hits .entry)) (now (hitxs .entry)) (now (hitys .entry)) (now (clock .entry))) queries (queryStep (gridTables (now (first .entry)) (now (cells .entry)) (now (count .entry)) (now (next .entry)) (now (readers .entry)) (now (owners .entry)) (now (xs .entry)) (now (ys .entry)) (now (times .entry)) (now (oids .entry)) (now (locks .entry)) (now (current .entry)) (now (previous .entry)) (now (pool .entry)) (now (hits .entry)) (now (hitxs .entry)) (now (hitys .entry)) (now (clock .entry))) queries lane) ≡ afterOf (r .number) (gridTables (now (first .entry)) (now (cells .entry)) (now (count .entry)) (now (next .entry)) (now (readers .exit)) (now (owners .entry)) (now (xs .entry)) (now (ys .entry)) (now (times .entry)) (now (oids .entry)) (now (locks .entry)) (now (current .entry)) (now (previous .entry)) (now (pool .entry)) (now (hits .exit)) (now (hitxs .exit)) (now (hitys .exit)) (now (clock .entry))) (r .queries) ⌝ }
+pub fn query_step(queries: [Query; 4], lane: u32, words: &mut [u32], times: &[i32]) -> Swept
+    ensures { λ r. ⌜ OnGrid words times (Steps queries lane r) ⌝ }
 {
-    if !right_all(
-        first.len(),
-        cells.len(),
-        count.len(),
-        next.len(),
-        readers.len(),
-        owners.len(),
-        xs.len(),
-        ys.len(),
-        times.len(),
-        oids.len(),
-        locks.len(),
-        current.len(),
-        previous.len(),
-        pool.len(),
-        hits.len(),
-        hitxs.len(),
-        hitys.len(),
-    ) {
+    if !right_words(words.len(), times.len()) {
         return Swept {
             number: 12,
             queries,
         };
     }
-    if lane >= 4 {
+    if lane >= QUERY_COUNT {
         return Swept { number: 1, queries };
     }
     let at = lane as usize;
@@ -102,21 +61,6 @@ pub fn query_step(
     if is_finished(s) {
         return Swept { number: 9, queries };
     }
-    let progress = scan_step(
-        first,
-        cells,
-        count,
-        next,
-        readers,
-        owners,
-        xs,
-        ys,
-        times,
-        hits,
-        hitxs,
-        hitys,
-        lane,
-        q,
-    );
+    let progress = scan_step(words, times, lane, q);
     end_step(queries, at, progress)
 }

@@ -1,1 +1,3 @@
+pub mod On
+pub mod Promise
 pub mod Scan

@@ -1,9 +1,11 @@
 // Entering the next cell of the scan.
-// Tables: lock and first bucket of each cell (256); count and readers of each bucket (512). The lengths are the caller's to check.
+// On the words that hold all tables; their number is the caller's to check.
 ghost use mathlib.Core.Path.{_≡_};
 ghost use lib.ListN.{length};
-ghost use Rattle.base.specs.Step.{turned};
-ghost use Rattle.query.specs.Scan.{enterFree, enterStep, progressSays};
+ghost use Rattle.query.specs.On.{enterFreeOn, enterOn};
+ghost use Rattle.tables.specs.Promise.{OnWords};
+ghost use Rattle.query.specs.Promise.{Progresses};
+ghost use Rattle.words.specs.Map.{WORDS};
 use crate::Onward;
 use crate::Progress;
 use crate::Query;
@@ -11,31 +13,35 @@ use crate::Scan;
 use crate::moving::after_cell;
 use crate::moving::one_more;
 use base::Attempt;
+use base::CELL_COUNT;
+use base::NO_BUCKET;
 use layout::question::is_visited;
 use locks::look_lock;
 use readers::Stood;
 use readers::add_reader;
+use words::CELLS;
+use words::FIRST;
 
 // Enters a cell that is not locked: passed at once if it is empty, else with a reader more at its first bucket.
-fn enter_free(first: &[u32], count: &[u32], readers: &mut [u32], q: Query, cell: u32) -> Progress
-    requires { ⌜ (length (now first) ≡ 256) × (length (now count) ≡ 512) × (length (now readers) ≡ 512) ⌝ }
-    ensures { λ r. ⌜ turned (now (readers .entry)) (enterFree (now (first .entry)) (now (count .entry)) (now (readers .entry)) q cell) ≡ (progressSays r, now (readers .exit)) ⌝ }
+fn enter_free(words: &mut [u32], q: Query, cell: u32) -> Progress
+    requires { ⌜ length (now words) ≡ WORDS ⌝ }
+    ensures { λ r. ⌜ OnWords words (Progresses (λ t. enterFreeOn t q cell) r) ⌝ }
 {
     if q.steps >= 4294967295 {
         return Progress::Corrupt;
     }
-    if cell >= 256 {
+    if cell >= CELL_COUNT {
         return Progress::Corrupt;
     }
-    let bucket = first[cell as usize];
-    if bucket == 512 {
+    let bucket = words[FIRST + cell as usize];
+    if bucket == NO_BUCKET {
         let onward = after_cell(q.question, cell);
         let Onward::To(stage) = onward else {
             return Progress::Corrupt;
         };
         return Progress::To(one_more(q, q.hits, stage));
     }
-    let stood = add_reader(count, readers, bucket);
+    let stood = add_reader(words, bucket);
     let Stood::In(s) = stood else {
         return Progress::Corrupt;
     };
@@ -43,24 +49,17 @@ fn enter_free(first: &[u32], count: &[u32], readers: &mut [u32], q: Query, cell:
 }
 
 // Enters a cell: blocked if it is locked.
-pub fn enter_step(
-    cells: &[u32],
-    first: &[u32],
-    count: &[u32],
-    readers: &mut [u32],
-    q: Query,
-    cell: u32,
-) -> Progress
-    requires { ⌜ (length (now first) ≡ 256) × (length (now count) ≡ 512) × (length (now readers) ≡ 512) ⌝ }
-    ensures { λ r. ⌜ turned (now (readers .entry)) (enterStep (now (cells .entry)) (now (first .entry)) (now (count .entry)) (now (readers .entry)) q cell) ≡ (progressSays r, now (readers .exit)) ⌝ }
+pub fn enter_step(words: &mut [u32], q: Query, cell: u32) -> Progress
+    requires { ⌜ length (now words) ≡ WORDS ⌝ }
+    ensures { λ r. ⌜ OnWords words (Progresses (λ t. enterOn t q cell) r) ⌝ }
 {
     if !is_visited(q.question, cell) {
         return Progress::Corrupt;
     }
-    let lock = look_lock(cells, cell as usize);
+    let lock = look_lock(&words[CELLS..FIRST], cell as usize);
     match lock {
         Attempt::Corrupt => Progress::Corrupt,
         Attempt::Blocked => Progress::Blocked,
-        Attempt::Done => enter_free(first, count, readers, q, cell),
+        Attempt::Done => enter_free(words, q, cell),
     }
 }

@@ -1,11 +1,19 @@
 // Readers: how a query stands in a bucket of a chain, and goes from one to the next.
-// Tables: count and readers of each bucket (512). The lengths are the caller's to check.
+// On the words that hold all tables; their number is the caller's to check.
 ghost use mathlib.Core.Path.{_≡_};
 ghost use lib.ListN.{length};
+ghost use Rattle.base.specs.Lent.{old, new};
 ghost use Rattle.base.specs.Outcome.{ended, nothing};
 ghost use Rattle.base.specs.Answer.{changeSays};
+ghost use Rattle.words.specs.Words.{countIn, readersIn, putReaders};
 ghost use Rattle.readers.specs.Reader.{Reading, addReader, takeReader, leaveFor, standingValues, stoodSays};
+ghost use Rattle.words.specs.Map.{WORDS};
+use base::BUCKET_COUNT;
+use base::BUCKET_SLOTS;
 use base::Change;
+use base::QUERY_COUNT;
+use words::COUNT;
+use words::READERS;
 
 // The bucket in which a query stands, and how many of its slots are left to read.
 pub struct Standing {
@@ -19,64 +27,64 @@ pub enum Stood {
 }
 
 // A reader more at a bucket, and its count noted.
-pub fn add_reader(count: &[u32], readers: &mut [u32], bucket: u32) -> Stood
-    requires { ⌜ (length (now count) ≡ 512) × (length (now readers) ≡ 512) ⌝ }
-    ensures { λ r. ⌜ ended standingValues (λ (d : Reading). d .readers) (now (readers .entry)) (addReader (now (count .entry)) (now (readers .entry)) bucket) ≡ (stoodSays r, now (readers .exit)) ⌝ }
+pub fn add_reader(words: &mut [u32], bucket: u32) -> Stood
+    requires { ⌜ length (now words) ≡ WORDS ⌝ }
+    ensures { λ r. ⌜ ended standingValues (λ (d : Reading). putReaders (old words) (d .readers)) (old words) (addReader (countIn (old words)) (readersIn (old words)) bucket) ≡ (stoodSays r, new words) ⌝ }
 {
-    if bucket >= 512 {
+    if bucket >= BUCKET_COUNT {
         return Stood::Corrupt;
     }
     let b = bucket as usize;
-    let n = readers[b];
-    if n >= 4 {
+    let n = words[READERS + b];
+    if n >= QUERY_COUNT {
         return Stood::Corrupt;
     }
-    let left = count[b];
-    if left > 4 {
+    let left = words[COUNT + b];
+    if left > BUCKET_SLOTS {
         return Stood::Corrupt;
     }
-    readers[b] = n + 1;
+    words[READERS + b] = n + 1;
     Stood::In(Standing { bucket, left })
 }
 
 // A reader less.
-pub fn take_reader(readers: &mut [u32], bucket: u32) -> Change
-    requires { ⌜ length (now readers) ≡ 512 ⌝ }
-    ensures { λ r. ⌜ ended nothing (λ l. l) (now (readers .entry)) (takeReader (now (readers .entry)) bucket) ≡ (changeSays r, now (readers .exit)) ⌝ }
+pub fn take_reader(words: &mut [u32], bucket: u32) -> Change
+    requires { ⌜ length (now words) ≡ WORDS ⌝ }
+    ensures { λ r. ⌜ ended nothing (putReaders (old words)) (old words) (takeReader (readersIn (old words)) bucket) ≡ (changeSays r, new words) ⌝ }
 {
-    if bucket >= 512 {
+    if bucket >= BUCKET_COUNT {
         return Change::Corrupt;
     }
     let b = bucket as usize;
-    let n = readers[b];
+    let n = words[READERS + b];
     if n == 0 {
         return Change::Corrupt;
     }
-    if n > 4 {
+    if n > QUERY_COUNT {
         return Change::Corrupt;
     }
-    readers[b] = n - 1;
+    words[READERS + b] = n - 1;
     Change::Done
 }
 
 // Leaves a bucket for the next one of the chain. A chain may be damaged, and the next bucket this one itself.
-pub fn leave_for(count: &[u32], readers: &mut [u32], bucket: u32, below: u32) -> Stood
-    requires { ⌜ (length (now count) ≡ 512) × (length (now readers) ≡ 512) ⌝ }
-    ensures { λ r. ⌜ ended standingValues (λ (d : Reading). d .readers) (now (readers .entry)) (leaveFor (now (count .entry)) (now (readers .entry)) bucket below) ≡ (stoodSays r, now (readers .exit)) ⌝ }
+pub fn leave_for(words: &mut [u32], bucket: u32, below: u32) -> Stood
+    requires { ⌜ length (now words) ≡ WORDS ⌝ }
+    ensures { λ r. ⌜ ended standingValues (λ (d : Reading). putReaders (old words) (d .readers)) (old words) (leaveFor (countIn (old words)) (readersIn (old words)) bucket below) ≡ (stoodSays r, new words) ⌝ }
 {
-    if below >= 512 {
+    if below >= BUCKET_COUNT {
         return Stood::Corrupt;
     }
     let n = below as usize;
-    let more = readers[n];
-    if more >= 4 {
+    let more = words[READERS + n];
+    if more >= QUERY_COUNT {
         return Stood::Corrupt;
     }
-    let left = count[n];
-    if left > 4 {
+    let left = words[COUNT + n];
+    if left > BUCKET_SLOTS {
         return Stood::Corrupt;
     }
-    if bucket >= 512 {
+    if bucket >= BUCKET_COUNT {
         return Stood::Corrupt;
     }
     let b = bucket as usize;
@@ -86,15 +94,15 @@ pub fn leave_for(count: &[u32], readers: &mut [u32], bucket: u32, below: u32) ->
             left,
         });
     }
-    let less = readers[b];
+    let less = words[READERS + b];
     if less == 0 {
         return Stood::Corrupt;
     }
-    if less > 4 {
+    if less > QUERY_COUNT {
         return Stood::Corrupt;
     }
-    readers[n] = more + 1;
-    readers[b] = less - 1;
+    words[READERS + n] = more + 1;
+    words[READERS + b] = less - 1;
     Stood::In(Standing {
         bucket: below,
         left,

@@ -5,6 +5,8 @@ use Prim.Native.Nat.{ℕ, _+_, _*_}
 use lib.Dec.{ltb}
 use lib.IntN.{ℤ, pos}
 use lib.ListN.{getD, set}
+use Rattle.words.specs.Map.{TUPLE-XS, TUPLE-YS}
+use Rattle.words.specs.Part.{part}
 use Rattle.base.specs.Outcome.{Told, says, Outcome, corrupt, done, need, one}
 use Rattle.base.specs.Table.{at}
 use Rattle.slots.specs.Stamp.{stampOf, current, deleted, stampRange}
@@ -25,6 +27,10 @@ pub record Tuples : Type 0 where
 abbrev pub tuplesOf : List ℕ → List ℕ → List ℕ → List ℤ → Tuples
 tuplesOf o x y t = record { oid = o; x = x; y = y; time = t }
 
+-- objects, x and y one after the other in one list, and the stamps
+abbrev pub tuplesAt : List ℕ → List ℤ → Tuples
+tuplesAt l ts = tuplesOf (part 0 2048 l) (part TUPLE-XS 2048 l) (part TUPLE-YS 2048 l) ts
+
 pub record Tuple : Type 0 where
   pub oid : ℕ
   pub x : ℕ
@@ -39,6 +45,10 @@ tupleAt d i = record { oid = at (d .oid) i; x = at (d .x) i; y = at (d .y) i; ti
 
 abbrev pub putTuple : Tuples → ℕ → Tuple → Tuples
 putTuple d i t = tuplesOf (set (d .oid) i (t .oid)) (set (d .x) i (t .x)) (set (d .y) i (t .y)) (set (d .time) i (t .time))
+
+-- all of it but the stamp
+abbrev pub putWords : Tuples → ℕ → ℕ → ℕ → ℕ → Tuples
+putWords d i k x y = tuplesOf (set (d .oid) i k) (set (d .x) i x) (set (d .y) i y) (d .time)
 
 -- a bucket and a slot in range
 unfoldable pub needSlot : {A : Type 0} → ℕ → ℕ → Outcome A → Outcome A

@@ -1,16 +1,25 @@
 // Tuples: read, copied and written whole.
 ghost use mathlib.Core.Path.{_≡_};
-ghost use Prim.Native.Nat.{_<_, _*_, _+_, _^_};
+ghost use Prim.Native.Nat.{_<_};
+ghost use mathlib.Core.List.{List};
+ghost use lib.IntN.{ℤ};
 ghost use lib.ListN.{length};
-ghost use Rattle.base.specs.Outcome.{tells, ended, nothing};
-ghost use Rattle.base.specs.Answer.{changeSays};
-ghost use Rattle.slots.specs.Tuple.{Tuples, tuplesOf, copy, overwrite, delete, read, seenValues, seenBy, tupleReadSays, sign, signValues, signSays};
+ghost use Rattle.base.specs.Lent.{old, new};
+ghost use Rattle.base.specs.Outcome.{tells};
+ghost use Rattle.base.specs.Promise.{Changes};
+ghost use Rattle.slots.specs.Tuple.{tuplesAt, putWords, copy, overwrite, delete, read, seenValues, seenBy, tupleReadSays, sign, signValues, signSays};
 ghost use Rattle.slots.specs.Stamp.{stampRange};
+ghost use Rattle.words.specs.Map.{TUPLES-SIZE, TIMES};
 use crate::stamp::Stamp;
 use crate::stamp::current_stamp;
 use crate::stamp::deleted_stamp;
 use crate::stamp::read_stamp;
+use base::BUCKET_COUNT;
+use base::BUCKET_SLOTS;
 use base::Change;
+use base::LAST_STAMP;
+use words::TUPLE_XS;
+use words::TUPLE_YS;
 
 // A tuple with its stamp taken apart.
 pub struct Seen {
@@ -40,91 +49,92 @@ pub fn in_range(time: u32) -> bool
     if time == 0 {
         return false;
     }
-    if time > 2147483647 {
+    if time > LAST_STAMP {
         return false;
     }
     true
 }
 
-pub fn read_tuple(
-    oids: &[u32],
-    xs: &[u32],
-    ys: &[u32],
-    times: &[i32],
-    bucket: u32,
-    slot: u32,
-) -> TupleRead
-    requires { ⌜ (length (now oids) ≡ 2048) × (length (now xs) ≡ 2048) × (length (now ys) ≡ 2048) × (length (now times) ≡ 2048) ⌝ }
-    ensures { λ r. ⌜ tells seenValues (read (tuplesOf (now (oids .entry)) (now (xs .entry)) (now (ys .entry)) (now (times .entry))) bucket slot) ≡ tupleReadSays r ⌝ }
+// Reads the tuple at a slot. Objects, x and y stand one after the other in one list, a column each.
+pub fn read_tuple(tuples: &[u32], times: &[i32], bucket: u32, slot: u32) -> TupleRead
+    requires { ⌜ (length (now tuples) ≡ TUPLES-SIZE) × (length (now times) ≡ TIMES) ⌝ }
+    ensures { λ r. ⌜ tells seenValues (read (tuplesAt (old tuples) (old times)) bucket slot) ≡ tupleReadSays r ⌝ }
 {
-    if bucket >= 512 {
+    if bucket >= BUCKET_COUNT {
         return TupleRead::Corrupt;
     }
-    if slot >= 4 {
+    if slot >= BUCKET_SLOTS {
         return TupleRead::Corrupt;
     }
-    let i = (4 * bucket + slot) as usize;
+    let i = (BUCKET_SLOTS * bucket + slot) as usize;
     let s = times[i];
     let stamp = read_stamp(s);
     match stamp {
         Stamp::Never => TupleRead::Corrupt,
         Stamp::Current(t) => TupleRead::At(Seen {
-            oid: oids[i],
-            x: xs[i],
-            y: ys[i],
+            oid: tuples[i],
+            x: tuples[TUPLE_XS + i],
+            y: tuples[TUPLE_YS + i],
             deleted: false,
             time: t,
         }),
         Stamp::Deleted(t) => TupleRead::At(Seen {
-            oid: oids[i],
-            x: xs[i],
-            y: ys[i],
+            oid: tuples[i],
+            x: tuples[TUPLE_XS + i],
+            y: tuples[TUPLE_YS + i],
             deleted: true,
             time: t,
         }),
     }
 }
 
+// Writes object, x and y over those at an entry.
+fn put_tuple(tuples: &mut [u32], at: usize, oid: u32, x: u32, y: u32)
+    requires { ⌜ (length (now tuples) ≡ TUPLES-SIZE) × (at < 2048) ⌝ }
+    ensures { λ r. ⌜ ((ts : List ℤ) → putWords (tuplesAt (old tuples) ts) at oid x y ≡ tuplesAt (new tuples) ts) ⌝ }
+{
+    tuples[at] = oid;
+    tuples[TUPLE_XS + at] = x;
+    tuples[TUPLE_YS + at] = y;
+}
+
 // Copies a tuple over another.
 pub fn copy_tuple(
-    oids: &mut [u32],
-    xs: &mut [u32],
-    ys: &mut [u32],
+    tuples: &mut [u32],
     times: &mut [i32],
     bucket: u32,
     slot: u32,
     bucket2: u32,
     slot2: u32,
 ) -> Change
-    requires { ⌜ (length (now oids) ≡ 2048) × (length (now xs) ≡ 2048) × (length (now ys) ≡ 2048) × (length (now times) ≡ 2048) ⌝ }
-    ensures { λ r. ⌜ ended nothing (λ (d : Tuples). d) (tuplesOf (now (oids .entry)) (now (xs .entry)) (now (ys .entry)) (now (times .entry))) (copy (tuplesOf (now (oids .entry)) (now (xs .entry)) (now (ys .entry)) (now (times .entry))) bucket slot bucket2 slot2) ≡ (changeSays r, tuplesOf (now (oids .exit)) (now (xs .exit)) (now (ys .exit)) (now (times .exit))) ⌝ }
+    requires { ⌜ (length (now tuples) ≡ TUPLES-SIZE) × (length (now times) ≡ TIMES) ⌝ }
+    ensures { λ r. ⌜ Changes (tuplesAt (old tuples) (old times)) (λ d. copy d bucket slot bucket2 slot2) r (tuplesAt (new tuples) (new times)) ⌝ }
 {
-    if bucket >= 512 {
+    if bucket >= BUCKET_COUNT {
         return Change::Corrupt;
     }
-    if slot >= 4 {
+    if slot >= BUCKET_SLOTS {
         return Change::Corrupt;
     }
-    if bucket2 >= 512 {
+    if bucket2 >= BUCKET_COUNT {
         return Change::Corrupt;
     }
-    if slot2 >= 4 {
+    if slot2 >= BUCKET_SLOTS {
         return Change::Corrupt;
     }
-    let from = (4 * bucket + slot) as usize;
-    let to = (4 * bucket2 + slot2) as usize;
-    oids[to] = oids[from];
-    xs[to] = xs[from];
-    ys[to] = ys[from];
+    let from = (BUCKET_SLOTS * bucket + slot) as usize;
+    let to = (BUCKET_SLOTS * bucket2 + slot2) as usize;
+    let oid = tuples[from];
+    let x = tuples[TUPLE_XS + from];
+    let y = tuples[TUPLE_YS + from];
+    put_tuple(tuples, to, oid, x, y);
     times[to] = times[from];
     Change::Done
 }
 
 // Writes a current tuple over the one at a slot.
 pub fn overwrite_tuple(
-    oids: &mut [u32],
-    xs: &mut [u32],
-    ys: &mut [u32],
+    tuples: &mut [u32],
     times: &mut [i32],
     bucket: u32,
     slot: u32,
@@ -133,42 +143,40 @@ pub fn overwrite_tuple(
     y: u32,
     time: u32,
 ) -> Change
-    requires { ⌜ (length (now oids) ≡ 2048) × (length (now xs) ≡ 2048) × (length (now ys) ≡ 2048) × (length (now times) ≡ 2048) ⌝ }
-    ensures { λ r. ⌜ ended nothing (λ (d : Tuples). d) (tuplesOf (now (oids .entry)) (now (xs .entry)) (now (ys .entry)) (now (times .entry))) (overwrite (tuplesOf (now (oids .entry)) (now (xs .entry)) (now (ys .entry)) (now (times .entry))) bucket slot oid x y time) ≡ (changeSays r, tuplesOf (now (oids .exit)) (now (xs .exit)) (now (ys .exit)) (now (times .exit))) ⌝ }
+    requires { ⌜ (length (now tuples) ≡ TUPLES-SIZE) × (length (now times) ≡ TIMES) ⌝ }
+    ensures { λ r. ⌜ Changes (tuplesAt (old tuples) (old times)) (λ d. overwrite d bucket slot oid x y time) r (tuplesAt (new tuples) (new times)) ⌝ }
 {
-    if bucket >= 512 {
+    if bucket >= BUCKET_COUNT {
         return Change::Corrupt;
     }
-    if slot >= 4 {
+    if slot >= BUCKET_SLOTS {
         return Change::Corrupt;
     }
     if !in_range(time) {
         return Change::Corrupt;
     }
-    let i = (4 * bucket + slot) as usize;
+    let i = (BUCKET_SLOTS * bucket + slot) as usize;
     let s = current_stamp(time);
-    oids[i] = oid;
-    xs[i] = x;
-    ys[i] = y;
+    put_tuple(tuples, i, oid, x, y);
     times[i] = s;
     Change::Done
 }
 
 // Logically deletes a tuple: its stamp becomes the negative of the one given.
 pub fn delete_tuple(times: &mut [i32], bucket: u32, slot: u32, time: u32) -> Change
-    requires { ⌜ length (now times) ≡ 2048 ⌝ }
-    ensures { λ r. ⌜ ended nothing (λ l. l) (now (times .entry)) (delete (now (times .entry)) bucket slot time) ≡ (changeSays r, now (times .exit)) ⌝ }
+    requires { ⌜ length (now times) ≡ TIMES ⌝ }
+    ensures { λ r. ⌜ Changes (old times) (λ l. delete l bucket slot time) r (new times) ⌝ }
 {
-    if bucket >= 512 {
+    if bucket >= BUCKET_COUNT {
         return Change::Corrupt;
     }
-    if slot >= 4 {
+    if slot >= BUCKET_SLOTS {
         return Change::Corrupt;
     }
     if !in_range(time) {
         return Change::Corrupt;
     }
-    let i = (4 * bucket + slot) as usize;
+    let i = (BUCKET_SLOTS * bucket + slot) as usize;
     let s = deleted_stamp(time);
     times[i] = s;
     Change::Done
@@ -189,16 +197,16 @@ pub fn is_seen(t: Seen, since: u32) -> bool
 
 // Whether the tuple at a slot is deleted, by its stamp's sign.
 pub fn read_sign(times: &[i32], bucket: u32, slot: u32) -> Sign
-    requires { ⌜ length (now times) ≡ 2048 ⌝ }
-    ensures { λ r. ⌜ tells signValues (sign (now (times .entry)) bucket slot) ≡ signSays r ⌝ }
+    requires { ⌜ length (now times) ≡ TIMES ⌝ }
+    ensures { λ r. ⌜ tells signValues (sign (old times) bucket slot) ≡ signSays r ⌝ }
 {
-    if bucket >= 512 {
+    if bucket >= BUCKET_COUNT {
         return Sign::Corrupt;
     }
-    if slot >= 4 {
+    if slot >= BUCKET_SLOTS {
         return Sign::Corrupt;
     }
-    let i = (4 * bucket + slot) as usize;
+    let i = (BUCKET_SLOTS * bucket + slot) as usize;
     let s = times[i];
     let stamp = read_stamp(s);
     match stamp {

@@ -1,2 +1,4 @@
 mod Filling
 pub mod Sized
+pub mod Grid
+pub mod Entries

@@ -1,126 +1,52 @@
-// One stage of an update, on all the tables that updates work on.
+// One stage of an update, on the words that hold all tables, and the stamps.
 ghost use mathlib.Core.Path.{_≡_};
 ghost use lib.ListN.{length};
-ghost use Rattle.base.specs.Step.{turned};
-ghost use Rattle.stage.specs.Turn.{turnSays};
-ghost use Rattle.hits.specs.Hits.{Hits};
-ghost use Rattle.turns.specs.Parts.{updateTables};
-ghost use Rattle.turns.specs.Stages.{stageOn, groupOf};
+ghost use Rattle.turns.specs.Stages.{stageOn};
+ghost use Rattle.tables.specs.Promise.{OnGrid};
+ghost use Rattle.words.specs.Map.{TIMES, WORDS};
+ghost use Rattle.stage.specs.Promise.{Turns};
 
-mod committing;
-mod erasing;
 mod locking;
-mod writing;
 
-use crate::committing::commit_stage;
-use crate::erasing::erase_stage;
-use crate::locking::lock_stage;
-use crate::writing::write_stage;
+use crate::locking::cell_in;
+use crate::locking::release_in;
+use crate::locking::take_in;
+use acquire::look_last;
+use choose::choose_cell;
+use commit::delete_old;
+use commit::raise;
+use commit::switch_place;
+use erase::copy_last;
+use erase::erase_entry;
+use erase::give_back;
+use erase::lower_first;
 use stage::Stage;
 use stage::Turn;
 use stage::Updater;
-
-// The group of a stage: those that work on the same tables.
-fn group_of(s: Stage) -> u32
-    ensures { λ r. ⌜ r ≡ groupOf s ⌝ }
-{
-    match s {
-        Stage::Idle => 0,
-        Stage::TakeObject => 1,
-        Stage::LockCell(_) => 1,
-        Stage::LookLast(_) => 1,
-        Stage::CopyLast(_, _) => 2,
-        Stage::LowerCount(_, _) => 2,
-        Stage::ReturnBucket(_, _, _) => 2,
-        Stage::ErasePlace(_, _) => 2,
-        Stage::ChooseCell => 3,
-        Stage::MakeRoom => 3,
-        Stage::WriteTuple => 3,
-        Stage::RaiseCount(_) => 4,
-        Stage::SwitchPlace(_) => 4,
-        Stage::DeleteOld(_) => 4,
-        Stage::ReleaseObject => 1,
-    }
-}
+use write::make_room_stage;
+use write::write_new;
 
 // Does the stage that an updater is at. The owner of the locks it takes is 1 + its number.
-pub fn step_stage(
-    first: &mut [u32],
-    cells: &mut [u32],
-    count: &mut [u32],
-    next: &mut [u32],
-    readers: &mut [u32],
-    owners: &mut [u32],
-    xs: &mut [u32],
-    ys: &mut [u32],
-    times: &mut [i32],
-    oids: &mut [u32],
-    locks: &mut [u32],
-    current: &mut [u32],
-    previous: &mut [u32],
-    pool: &mut [u32],
-    clock: &mut u32,
-    owner: u32,
-    u: Updater,
-) -> Turn
-    requires { ⌜ (length (now first) ≡ 256) × (length (now cells) ≡ 256) × (length (now count) ≡ 512) × (length (now next) ≡ 512) × (length (now readers) ≡ 512) × (length (now owners) ≡ 2048) × (length (now xs) ≡ 2048) × (length (now ys) ≡ 2048) × (length (now times) ≡ 2048) × (length (now oids) ≡ 512) × (length (now locks) ≡ 512) × (length (now current) ≡ 512) × (length (now previous) ≡ 512) ⌝ }
-    ensures { λ r. ⌜ ((h : Hits) → turned (updateTables h (now (first .entry)) (now (cells .entry)) (now (count .entry)) (now (next .entry)) (now (readers .entry)) (now (owners .entry)) (now (xs .entry)) (now (ys .entry)) (now (times .entry)) (now (oids .entry)) (now (locks .entry)) (now (current .entry)) (now (previous .entry)) (now (pool .entry)) (now (clock .entry))) (stageOn (updateTables h (now (first .entry)) (now (cells .entry)) (now (count .entry)) (now (next .entry)) (now (readers .entry)) (now (owners .entry)) (now (xs .entry)) (now (ys .entry)) (now (times .entry)) (now (oids .entry)) (now (locks .entry)) (now (current .entry)) (now (previous .entry)) (now (pool .entry)) (now (clock .entry))) owner u (u .stage)) ≡ (turnSays r, updateTables h (now (first .exit)) (now (cells .exit)) (now (count .exit)) (now (next .exit)) (now (readers .exit)) (now (owners .exit)) (now (xs .exit)) (now (ys .exit)) (now (times .exit)) (now (oids .exit)) (now (locks .exit)) (now (current .exit)) (now (previous .exit)) (now (pool .exit)) (now (clock .exit)))) ⌝ }
+pub fn step_stage(words: &mut [u32], times: &mut [i32], owner: u32, u: Updater) -> Turn
+    requires { ⌜ (length (now words) ≡ WORDS) × (length (now times) ≡ TIMES) ⌝ }
+    ensures { λ r. ⌜ OnGrid words times (Turns (λ t. stageOn t owner u (u .stage)) r) ⌝ }
 {
     let s = u.stage;
-    let g = group_of(s);
-    if g == 1 {
-        return lock_stage(first, cells, count, owners, oids, locks, previous, owner, u);
+    match s {
+        Stage::Idle => Turn::Corrupt,
+        Stage::TakeObject => take_in(words, owner, u),
+        Stage::LockCell(p) => cell_in(words, owner, u, p),
+        Stage::LookLast(p) => look_last(words, p, u.oid, owner),
+        Stage::CopyLast(p, m) => copy_last(words, times, p, m),
+        Stage::LowerCount(p, m) => lower_first(words, p, m),
+        Stage::ReturnBucket(p, m, b) => give_back(words, p, m, b),
+        Stage::ErasePlace(p, m) => erase_entry(words, times, p, m, u.oid),
+        Stage::ChooseCell => choose_cell(words, times, u.oid, u.x, u.y, owner),
+        Stage::MakeRoom => make_room_stage(words, u.x, u.y),
+        Stage::WriteTuple => write_new(words, times, u.oid, u.x, u.y),
+        Stage::RaiseCount(p) => raise(words, p),
+        Stage::SwitchPlace(p) => switch_place(words, p, u.oid),
+        Stage::DeleteOld(p) => delete_old(words, times, p),
+        Stage::ReleaseObject => release_in(words, owner, u),
     }
-    if g == 2 {
-        return erase_stage(
-            first,
-            cells,
-            count,
-            next,
-            readers,
-            owners,
-            xs,
-            ys,
-            times,
-            oids,
-            locks,
-            current,
-            previous,
-            pool,
-            owner,
-            u,
-        );
-    }
-    if g == 3 {
-        return write_stage(
-            first,
-            cells,
-            count,
-            next,
-            owners,
-            xs,
-            ys,
-            times,
-            oids,
-            current,
-            pool,
-            clock,
-            owner,
-            u,
-        );
-    }
-    if g == 4 {
-        return commit_stage(
-            cells,
-            count,
-            times,
-            oids,
-            current,
-            previous,
-            clock,
-            owner,
-            u,
-        );
-    }
-    Turn::Corrupt
 }

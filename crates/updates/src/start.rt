@@ -1,31 +1,54 @@
 // The start of an update (document 01: report start).
 ghost use mathlib.Core.Path.{_≡_};
+ghost use mathlib.Core.List.{List};
+ghost use lib.IntN.{ℤ};
 ghost use lib.ListN.{length};
+ghost use Rattle.index.specs.Index.{insert};
 ghost use Rattle.index.specs.Search.{search};
-ghost use Rattle.calls.specs.Call.{gridTables, after, afterOf};
-ghost use Rattle.updates.specs.Update.{updateStart, hasRoom};
+ghost use Rattle.tables.specs.Grid.{grid};
+ghost use Rattle.tables.specs.Tables.{withIndex};
+ghost use Rattle.updates.specs.Update.{hasRoom};
+ghost use Rattle.base.specs.Promise.{ChangesIn};
+ghost use Rattle.tables.specs.Promise.{OnGrid, OnWords};
+ghost use Rattle.updates.specs.Promise.{Starts};
+ghost use Rattle.words.specs.Map.{WORDS};
+ghost use Rattle.base.specs.Lent.{old};
 use crate::lanes::Stepped;
 use crate::lanes::is_idle;
+use base::CLOCK_SPENT;
 use base::Change;
+use base::MOST_OBJECTS;
+use base::UPDATER_COUNT;
 use index::search::Search;
 use index::search::count_known;
-use index::search::enter_object;
-use index::search::find_object;
+use index::search::enter_at;
 use layout::place::on_grid;
 use stage::Stage;
 use stage::Updater;
-use tables::lengths::right_all;
+use tables::lengths::right_words;
+use tables::seek::seek_object;
+use words::CLOCK;
+use words::HITS;
+use words::INDEX;
+use words::LOCKS;
 
-// Whether an object may be reported: it is known, or fewer than 256 are.
-fn has_room(oids: &[u32], oid: u32) -> bool
-    requires { ⌜ length (now oids) ≡ 512 ⌝ }
-    ensures { λ r. ⌜ r ≡ hasRoom (search (now (oids .entry)) oid) (now (oids .entry)) ⌝ }
+// Whether an object may be reported, whose search ended there: it is known, or fewer than 256 are.
+pub fn has_room(words: &[u32], s: Search) -> bool
+    requires { ⌜ length (now words) ≡ WORDS ⌝ }
+    ensures { λ r. ⌜ ((ts : List ℤ) → hasRoom s (grid (old words) ts .index .oid) ≡ r) ⌝ }
 {
-    let s = find_object(oids, oid);
     let Search::Empty(_) = s else {
         return true;
     };
-    count_known(oids) < 256
+    count_known(&words[INDEX..LOCKS]) < MOST_OBJECTS
+}
+
+// Enters an object where its search ended; leaves a known one as it is.
+pub fn enter_there(words: &mut [u32], s: Search, oid: u32) -> Change
+    requires { ⌜ (length (now words) ≡ WORDS) × ((ts : List ℤ) → search (grid (now words) ts .index .oid) oid ≡ s) ⌝ }
+    ensures { λ r. ⌜ OnWords words (ChangesIn withIndex (λ t. insert (t .index) oid) r) ⌝ }
+{
+    enter_at(&mut words[INDEX..HITS], s, oid)
 }
 
 // Starts an update of an object's place. Gives 0, or is refused with 12 (lengths), 1, 2, 4, 5, 7 or 8.
@@ -35,52 +58,18 @@ pub fn update_start(
     oid: u32,
     x: u32,
     y: u32,
-    first: &[u32],
-    cells: &[u32],
-    count: &[u32],
-    next: &[u32],
-    readers: &[u32],
-    owners: &[u32],
-    xs: &[u32],
-    ys: &[u32],
+    words: &mut [u32],
     times: &[i32],
-    oids: &mut [u32],
-    locks: &mut [u32],
-    current: &mut [u32],
-    previous: &mut [u32],
-    pool: &[u32],
-    hits: &[u32],
-    hitxs: &[u32],
-    hitys: &[u32],
-    clock: &u32,
 ) -> Stepped
-    ensures { λ r. ⌜ after (gridTables (now (first .entry)) (now (cells .entry)) (now (count .entry)) (now (next .entry)) (now (readers .entry)) (now (owners .entry)) (now (xs .entry)) (now (ys .entry)) (now (times .entry)) (now (oids .entry)) (now (locks .entry)) (now (current .entry)) (now (previous .entry)) (now (pool .entry)) (now (hits .entry)) (now (hitxs .entry)) (now (hitys .entry)) (now (clock .entry))) updaters (updateStart (gridTables (now (first .entry)) (now (cells .entry)) (now (count .entry)) (now (next .entry)) (now (readers .entry)) (now (owners .entry)) (now (xs .entry)) (now (ys .entry)) (now (times .entry)) (now (oids .entry)) (now (locks .entry)) (now (current .entry)) (now (previous .entry)) (now (pool .entry)) (now (hits .entry)) (now (hitxs .entry)) (now (hitys .entry)) (now (clock .entry))) updaters lane oid x y) ≡ afterOf (r .number) (gridTables (now (first .entry)) (now (cells .entry)) (now (count .entry)) (now (next .entry)) (now (readers .entry)) (now (owners .entry)) (now (xs .entry)) (now (ys .entry)) (now (times .entry)) (now (oids .exit)) (now (locks .exit)) (now (current .exit)) (now (previous .exit)) (now (pool .entry)) (now (hits .entry)) (now (hitxs .entry)) (now (hitys .entry)) (now (clock .entry))) (r .updaters) ⌝ }
+    ensures { λ r. ⌜ OnGrid words times (Starts updaters lane oid x y r) ⌝ }
 {
-    if !right_all(
-        first.len(),
-        cells.len(),
-        count.len(),
-        next.len(),
-        readers.len(),
-        owners.len(),
-        xs.len(),
-        ys.len(),
-        times.len(),
-        oids.len(),
-        locks.len(),
-        current.len(),
-        previous.len(),
-        pool.len(),
-        hits.len(),
-        hitxs.len(),
-        hitys.len(),
-    ) {
+    if !right_words(words.len(), times.len()) {
         return Stepped {
             number: 12,
             updaters,
         };
     }
-    if lane >= 8 {
+    if lane >= UPDATER_COUNT {
         return Stepped {
             number: 1,
             updaters,
@@ -107,19 +96,20 @@ pub fn update_start(
             updaters,
         };
     }
-    if !has_room(oids, oid) {
+    let place = seek_object(words, oid);
+    if !has_room(words, place) {
         return Stepped {
             number: 7,
             updaters,
         };
     }
-    if *clock >= 2147483600 {
+    if words[CLOCK] >= CLOCK_SPENT {
         return Stepped {
             number: 8,
             updaters,
         };
     }
-    let entered = enter_object(oids, locks, current, previous, oid);
+    let entered = enter_there(words, place, oid);
     let Change::Done = entered else {
         return Stepped {
             number: 12,

@@ -1,15 +1,16 @@
 // A step of an update (document 01: report step).
 ghost use mathlib.Core.Path.{_≡_};
 ghost use Prim.Native.Nat.{_<_};
-ghost use Rattle.stage.specs.Turn.{turnSays};
-ghost use Rattle.calls.specs.Call.{gridTables, after, afterOf, nextLanes};
-ghost use Rattle.updates.specs.Update.{updateStep, putStage};
+ghost use Rattle.updates.specs.Update.{putStage};
+ghost use Rattle.updates.specs.Promise.{EndsTurn, Steps};
+ghost use Rattle.tables.specs.Promise.{OnGrid};
 use crate::lanes::Stepped;
 use crate::lanes::is_idle;
+use base::UPDATER_COUNT;
 use stage::Stage;
 use stage::Turn;
 use stage::Updater;
-use tables::lengths::right_all;
+use tables::lengths::right_words;
 use turns::step_stage;
 
 // The updater at this number goes on to a stage.
@@ -34,7 +35,7 @@ fn put_stage(updaters: [Updater; 8], at: usize, number: u32, s: Stage) -> Steppe
 // What a step gives, from how its stage ended.
 fn end_step(updaters: [Updater; 8], at: usize, turn: Turn) -> Stepped
     requires { ⌜ at < 8 ⌝ }
-    ensures { λ r. ⌜ (r .number ≡ turnSays turn .number) × (r .updaters ≡ nextLanes updaters (putStage updaters at) (turnSays turn .next)) ⌝ }
+    ensures { λ r. ⌜ EndsTurn updaters at turn r ⌝ }
 {
     match turn {
         Turn::Corrupt => Stepped {
@@ -55,52 +56,18 @@ fn end_step(updaters: [Updater; 8], at: usize, turn: Turn) -> Stepped
 pub fn update_step(
     updaters: [Updater; 8],
     lane: u32,
-    first: &mut [u32],
-    cells: &mut [u32],
-    count: &mut [u32],
-    next: &mut [u32],
-    readers: &mut [u32],
-    owners: &mut [u32],
-    xs: &mut [u32],
-    ys: &mut [u32],
+    words: &mut [u32],
     times: &mut [i32],
-    oids: &mut [u32],
-    locks: &mut [u32],
-    current: &mut [u32],
-    previous: &mut [u32],
-    pool: &mut [u32],
-    hits: &[u32],
-    hitxs: &[u32],
-    hitys: &[u32],
-    clock: &mut u32,
 ) -> Stepped
-    ensures { λ r. ⌜ after (gridTables (now (first .entry)) (now (cells .entry)) (now (count .entry)) (now (next .entry)) (now (readers .entry)) (now (owners .entry)) (now (xs .entry)) (now (ys .entry)) (now (times .entry)) (now (oids .entry)) (now (locks .entry)) (now (current .entry)) (now (previous .entry)) (now (pool .entry)) (now (hits .entry)) (now (hitxs .entry)) (now (hitys .entry)) (now (clock .entry))) updaters (updateStep (gridTables (now (first .entry)) (now (cells .entry)) (now (count .entry)) (now (next .entry)) (now (readers .entry)) (now (owners .entry)) (now (xs .entry)) (now (ys .entry)) (now (times .entry)) (now (oids .entry)) (now (locks .entry)) (now (current .entry)) (now (previous .entry)) (now (pool .entry)) (now (hits .entry)) (now (hitxs .entry)) (now (hitys .entry)) (now (clock .entry))) updaters lane) ≡ afterOf (r .number) (gridTables (now (first .exit)) (now (cells .exit)) (now (count .exit)) (now (next .exit)) (now (readers .exit)) (now (owners .exit)) (now (xs .exit)) (now (ys .exit)) (now (times .exit)) (now (oids .exit)) (now (locks .exit)) (now (current .exit)) (now (previous .exit)) (now (pool .exit)) (now (hits .entry)) (now (hitxs .entry)) (now (hitys .entry)) (now (clock .exit))) (r .updaters) ⌝ }
+    ensures { λ r. ⌜ OnGrid words times (Steps updaters lane r) ⌝ }
 {
-    if !right_all(
-        first.len(),
-        cells.len(),
-        count.len(),
-        next.len(),
-        readers.len(),
-        owners.len(),
-        xs.len(),
-        ys.len(),
-        times.len(),
-        oids.len(),
-        locks.len(),
-        current.len(),
-        previous.len(),
-        pool.len(),
-        hits.len(),
-        hitxs.len(),
-        hitys.len(),
-    ) {
+    if !right_words(words.len(), times.len()) {
         return Stepped {
             number: 12,
             updaters,
         };
     }
-    if lane >= 8 {
+    if lane >= UPDATER_COUNT {
         return Stepped {
             number: 1,
             updaters,
@@ -115,24 +82,6 @@ pub fn update_step(
             updaters,
         };
     }
-    let turn = step_stage(
-        first,
-        cells,
-        count,
-        next,
-        readers,
-        owners,
-        xs,
-        ys,
-        times,
-        oids,
-        locks,
-        current,
-        previous,
-        pool,
-        clock,
-        lane + 1,
-        u,
-    );
+    let turn = step_stage(words, times, lane + 1, u);
     end_step(updaters, at, turn)
 }

@@ -1,44 +1,62 @@
--- go_back does what `goBack` says: as find_object answers, then one case for each return, by the tests that led there.
-use borrow.Author.Tests.{le-ltb, lt-ltb}
-use Rattle.base.specs.Outcome.{need, andThen}
-use Rattle.locks.specs.Lock.{release}
-use Rattle.base.specs.Step.{turnTells, turnLeaves}
-use Rattle.stage.specs.Turn.{atEntry}
-use Rattle.acquire.specs.Acquire.{goBack}
-use Rattle.index.proofs.Probe.{answered as sought}
+-- go_back does what `goBack` says of all tables: one law of Steps.antt for each return.
+use mathlib.Core.Path.{_∙_}
+use native.Mathlib.Omega.{arith}
+use denote.Ref.{now}
+use Rattle.words.specs.Map.{INDEX, INDEX-SIZE}
+use Rattle.words.proofs.Parts.{part-length}
+use Rattle.acquire.proofs.Steps.{back-off, back-kept, back-freed}
 use borrow.Author.Needs.{needs}
 use Rattle.acquire.proofs.go_back.Statement.{statement}
 use Rattle.acquire.proofs.go_back.Tie as tie
+use Rattle.acquire.proofs.free_object.Reads as free-object-reads
 
-find-object-requires : tie.Need-find-object-requires
-find-object-requires c κs = search needs
+returns : tie.Need-returns
+returns c ts =
+    let s = c .before .before in
+    back-off (now (s .args .words)) ts (s .pre) (s .args .place) (s .args .oid) (c .if1 .taken)
 
-enum-known-s : tie.Need-enum-known-s
-enum-known-s c = search needs
+sub-free-object : tie.Need-sub-free-object
+sub-free-object c = search needs
+
+part-free-object-start : tie.Need-part-free-object-start
+part-free-object-start c = search needs
+
+part-free-object-end : tie.Need-part-free-object-end
+part-free-object-end c = search needs
+
+free-object-requires : tie.Need-free-object-requires
+free-object-requires c κs =
+    let s = c .before .before .before in
+    (part-length (now (s .args .words)) INDEX INDEX-SIZE (omega (arith, s .pre)))
 
 enum-told : tie.Need-enum-told
 enum-told c = search needs
 
-returns : tie.Need-returns
-unfolding goBack release need atEntry andThen turnTells turnLeaves
-returns c = rw (sought _ _ _ (c .before .before .find-object .ensures) (c .enum-told .given .1))
+enum-told-2 : tie.Need-enum-told-2
+enum-told-2 c = search needs
 
-cast-c : tie.Need-cast-c
-cast-c c = search needs
+same-length : tie.Need-same-length
+same-length c = search needs
 
 returns-2 : tie.Need-returns-2
-unfolding goBack release need atEntry andThen turnTells turnLeaves
-returns-2 c = rw (sought _ _ _ (c .before .before .before .before .find-object .ensures) (c .before .before .s .given .1), le-ltb _ _ (c .if1 .taken))
+returns-2 c ts =
+    let s = c .before .before .before .before .before .before .before .before in
+    let free-object = c .before .before .before .before .free-object in
+    back-kept (now (s .args .words)) ts (s .pre) (s .args .place) (s .args .oid) (free-object .last .0)
+    (free-object .kept .0 ∙ (part-length (now (s .args .words)) INDEX INDEX-SIZE (omega (arith, s .pre))))
+    (free-object .ensures) (c .enum-told2 .given .1)
 
-returns-3 : tie.Need-returns-3
-unfolding goBack release need atEntry andThen turnTells turnLeaves
-returns-3 c = rw (sought _ _ _ (c .before .before .before .before .before .find-object .ensures) (c .before .before .before .s .given .1), lt-ltb _ _ (c .before .if1 .left), le-ltb _ _ (c .if2 .taken))
+sub-cells : tie.Need-sub-cells
+sub-cells c = search needs
 
-mul-locks : tie.Need-mul-locks
-mul-locks c = search needs
+part-cells-start : tie.Need-part-cells-start
+part-cells-start c = search needs
 
-slice-write-locks : tie.Need-slice-write-locks
-slice-write-locks c = search needs
+part-cells-end : tie.Need-part-cells-end
+part-cells-end c = search needs
+
+cast-cells : tie.Need-cast-cells
+cast-cells c = search needs
 
 mul-cells : tie.Need-mul-cells
 mul-cells c = search needs
@@ -46,31 +64,37 @@ mul-cells c = search needs
 slice-write-cells : tie.Need-slice-write-cells
 slice-write-cells c = search needs
 
-same-length : tie.Need-same-length
-same-length c = search needs
-
 same-length-2 : tie.Need-same-length-2
 same-length-2 c = search needs
 
-returns-4 : tie.Need-returns-4
-unfolding goBack release need atEntry andThen turnTells turnLeaves
-returns-4 c = rw (sought _ _ _ (c .before .before .before .before .before .find-object .ensures) (c .before .before .before .s .given .1), lt-ltb _ _ (c .before .if1 .left), lt-ltb _ _ (c .if2 .left))
+returns-3 : tie.Need-returns-3
+returns-3 c ts =
+    let s = c .before .before .before .before .before .before .before .before .before .before .before in
+    let if1 = c .before .before .before .before .before .before .before .before .before .if1 in
+    let free-object = c .before .before .before .before .before .before .before .free-object in
+    let enum-told = c .before .before .before .enum-told in
+    back-freed (now (s .args .words)) ts (s .pre) (s .args .place) (s .args .oid) (free-object .last .0)
+    (free-object .kept .0 ∙ (part-length (now (s .args .words)) INDEX INDEX-SIZE (omega (arith, s .pre))))
+    (free-object .ensures) (enum-told .given .1) (if1 .left)
 
 pub go-back-spec : {M : Type 1} → statement M
 go-back-spec =
     tie.close
     (tie.spec
-    find-object-requires
-    enum-known-s
-    enum-told
     returns
-    cast-c
+    sub-free-object
+    part-free-object-start
+    part-free-object-end
+    free-object-requires
+    enum-told
+    enum-told-2
+    same-length
     returns-2
-    returns-3
-    mul-locks
-    slice-write-locks
+    sub-cells
+    part-cells-start
+    part-cells-end
+    cast-cells
     mul-cells
     slice-write-cells
-    same-length
     same-length-2
-    returns-4)
+    returns-3)

@@ -1,17 +1,37 @@
--- push_bucket does what `push` says: by the test, then as take_bucket answers.
-use borrow.Author.Tests.{le-ltb, lt-ltb}
-use Rattle.base.specs.Outcome.{need, andThen, tells, leaves}
-use Rattle.cells.specs.Chain.{push}
+-- push_bucket does what `push` says: by the test, then as take_bucket answers and link_bucket does.
+use mathlib.Core.Path.{sym, ap, _∙_}
+use denote.Ref.{now}
+use borrow.Author.Tests.{le-ltb}
+use Rattle.base.specs.Outcome.{need, andThen}
+use Rattle.pool.specs.Pool.{take}
 use Rattle.pool.proofs.Answers.{taken-corrupt, taken-bucket}
 use Rattle.pool.proofs.Laws.{take-below}
-use native.Mathlib.Omega.{arith}
+use Rattle.tables.specs.Tables.{Tables, withPool}
+use Rattle.tables.specs.Grid.{grid}
+use Rattle.tables.proofs.Grid.{pool-lent}
+use Rattle.cells.specs.Chain.{push}
+use Rattle.cells.specs.On.{linked}
+use Rattle.base.proofs.Ends.{refuses}
+use Rattle.cells.proofs.Doing.{pushed, dry}
+use Rattle.cells.proofs.Stored.{lent#, stored-pool}
 use borrow.Author.Needs.{needs}
 use Rattle.cells.proofs.push_bucket.Statement.{statement}
 use Rattle.cells.proofs.push_bucket.Tie as tie
+use Rattle.cells.proofs.link_bucket.Reads as link-bucket-reads
+use Rattle.pool.proofs.take_bucket.Reads as take-bucket-reads
 
 returns : tie.Need-returns
-unfolding push need andThen tells leaves
-returns c = rw (le-ltb _ _ (c .if1 .taken))
+unfolding push need andThen
+returns c ts = refuses _ _ _ _ (rw (le-ltb _ _ (c .if1 .taken)))
+
+sub-take-bucket : tie.Need-sub-take-bucket
+sub-take-bucket c = search needs
+
+part-take-bucket-start : tie.Need-part-take-bucket-start
+part-take-bucket-start c = search needs
+
+part-take-bucket-end : tie.Need-part-take-bucket-end
+part-take-bucket-end c = search needs
 
 take-bucket-requires : tie.Need-take-bucket-requires
 take-bucket-requires c κs = search needs
@@ -26,73 +46,56 @@ same-length : tie.Need-same-length
 same-length c = search needs
 
 returns-2 : tie.Need-returns-2
-unfolding push need andThen tells leaves
-returns-2 c = let t = taken-corrupt _ _ _ (c .before .before .before .before .take-bucket .ensures) (c .enum-told .given .1) in rw (lt-ltb _ _ (c .before .before .before .before .before .before .if1 .left), t .0, t .1)
+returns-2 c ts =
+    let s = c .before .before .before .before .before .before .before .before in
+    let if1 = c .before .before .before .before .before .before .if1 in
+    let take-bucket = c .before .before .before .before .take-bucket in
+    let e = (taken-corrupt _ _ _ (take-bucket .ensures) (c .enum-told .given .1)) in
+    dry (grid (now (s .args .words)) ts) (s .args .cell) (if1 .left)
+    (ap take (sym (pool-lent (now (s .args .words)) ts (s .pre))) ∙ e .0) _
+    (stored-pool (now (s .args .words)) (s .pre) (take-bucket .last .0) (take-bucket .kept .0) ts ∙ ap
+    (withPool (grid (now (s .args .words)) ts)) (e .1 ∙ pool-lent (now (s .args .words)) ts (s .pre)))
 
-cast-b : tie.Need-cast-b
-cast-b c = search needs
-
-mul-count : tie.Need-mul-count
-mul-count c = search needs
-
-slice-write-count : tie.Need-slice-write-count
-slice-write-count c = omega (arith, take-below _ _ (taken-bucket _ _ _ (c .before .before .before .before .before .take-bucket .ensures) _ (c .before .taken .given .1)))
-
-mul-next : tie.Need-mul-next
-mul-next c = search needs
-
-slice-read-next : tie.Need-slice-read-next
-slice-read-next c = search needs
-
-mul-next-2 : tie.Need-mul-next-2
-mul-next-2 c = search needs
-
-slice-write-next : tie.Need-slice-write-next
-slice-write-next c = omega (arith, take-below _ _ (taken-bucket _ _ _ (c .before .before .before .before .before .before .take-bucket .ensures) _ (c .before .before .taken .given .1)))
-
-mul-first : tie.Need-mul-first
-mul-first c = search needs
-
-slice-write-first : tie.Need-slice-write-first
-slice-write-first c = search needs
+link-bucket-requires : tie.Need-link-bucket-requires
+link-bucket-requires c κs =
+    let s = c .before .before .before .before .before .before .before .before .before .before in
+    let if1 = c .before .before .before .before .before .before .before .before .if1 in
+    let take-bucket = c .before .before .before .before .before .before .take-bucket in (
+      lent# (now (s .args .words)) (s .pre) (take-bucket .last .0) (take-bucket .kept .0),
+      (if1 .left),
+      take-below _ _
+          (taken-bucket _ _ _ (take-bucket .ensures) _ (c .before .before .taken .given .1)),
+    )
 
 same-length-2 : tie.Need-same-length-2
 same-length-2 c = search needs
 
-same-length-3 : tie.Need-same-length-3
-same-length-3 c = search needs
-
-same-length-4 : tie.Need-same-length-4
-same-length-4 c = search needs
-
-same-length-5 : tie.Need-same-length-5
-same-length-5 c = search needs
-
 returns-3 : tie.Need-returns-3
-unfolding push need andThen tells leaves
-returns-3 c = rw (lt-ltb _ _ (c .before .before .before .before .before .before .before .before .if1 .left), taken-bucket _ _ _ (c .before .before .before .before .before .before .take-bucket .ensures) _ (c .before .before .taken .given .1))
+returns-3 c ts =
+    let s = c .before .before .before .before .before .before .before .before .before .before .before .before .before in
+    let if1 = c .before .before .before .before .before .before .before .before .before .before .before .if1 in
+    let take-bucket = c .before .before .before .before .before .before .before .before .before .take-bucket in
+    let taken = c .before .before .before .before .before .taken in
+    pushed (grid (now (s .args .words)) ts) (s .args .cell) _ (take-bucket .last .0) (if1 .left)
+    (ap take (sym (pool-lent (now (s .args .words)) ts (s .pre))) ∙
+    (taken-bucket _ _ _ (take-bucket .ensures) _ (taken .given .1))) _
+    (c .before .before .link-bucket .ensures ts ∙ ap (λ (t : Tables). linked t (s .args .cell)
+    (taken .given .0 .0)) (stored-pool (now (s .args .words)) (s .pre) (take-bucket .last .0)
+    (take-bucket .kept .0) ts))
 
 pub push-bucket-spec : {M : Type 1} → statement M
 push-bucket-spec =
     tie.close
     (tie.spec
     returns
+    sub-take-bucket
+    part-take-bucket-start
+    part-take-bucket-end
     take-bucket-requires
     enum-known-taken
     enum-told
     same-length
     returns-2
-    cast-b
-    mul-count
-    slice-write-count
-    mul-next
-    slice-read-next
-    mul-next-2
-    slice-write-next
-    mul-first
-    slice-write-first
+    link-bucket-requires
     same-length-2
-    same-length-3
-    same-length-4
-    same-length-5
     returns-3)

@@ -1,28 +1,65 @@
 -- return_bucket does what `giveBack` says: by the tests that led to each return, then as give_bucket answers.
-use borrow.Author.Tests.{eq-eqb, le-leb, le-ltb, lt-leb, lt-ltb, ne-eqb}
-use Rattle.base.specs.Outcome.{need, await, tells, leaves}
+use Prim.Native.Nat.{_+_}
+use denote.Ref.{now}
+use borrow.Author.Tests.{le-leb, le-ltb, lt-leb, lt-ltb, ne-eqb}
+use Rattle.base.specs.Outcome.{need, await}
+use Rattle.base.specs.Table.{at}
+use Rattle.words.specs.Map.{READERS}
+use Rattle.tables.specs.Grid.{grid}
+use Rattle.tables.proofs.Grid.{readers-at, pool-lent}
 use Rattle.cells.specs.Chain.{giveBack}
+use Rattle.base.proofs.Ends.{refuses, waits}
+use Rattle.cells.proofs.Doing.{returned}
+use Rattle.cells.proofs.Stored.{stored-pool}
 use borrow.Author.Needs.{needs}
 use Rattle.cells.proofs.return_bucket.Statement.{statement}
 use Rattle.cells.proofs.return_bucket.Tie as tie
+use Rattle.pool.proofs.give_bucket.Reads as give-bucket-reads
 
 returns : tie.Need-returns
-unfolding giveBack need await tells leaves
-returns c = rw (le-ltb _ _ (c .if1 .taken))
+unfolding giveBack need await
+returns c ts = refuses _ _ _ _ (rw (le-ltb _ _ (c .if1 .taken)))
+
+add-n : tie.Need-add-n
+add-n c = search needs
 
 mul-n : tie.Need-mul-n
 mul-n c = search needs
 
-shared-slice-read-n : tie.Need-shared-slice-read-n
-shared-slice-read-n c = search needs
+slice-read-n : tie.Need-slice-read-n
+slice-read-n c = search needs
 
 returns-2 : tie.Need-returns-2
-unfolding giveBack need await tells leaves
-returns-2 c = rw (lt-ltb _ _ (c .before .before .if1 .left), lt-leb _ _ (c .if2 .taken))
+unfolding giveBack need await
+returns-2 c ts =
+    let s = c .before .before .before .before in
+    refuses _ _ _ _ (rw (
+      lt-ltb _ _ (c .before .before .if1 .left),
+      readers-at (now (s .args .words)) ts
+          (s .args .bucket) (c .before .before .if1 .left),
+      lt-leb _ _ (c .if2 .taken),
+    ))
 
 returns-3 : tie.Need-returns-3
-unfolding giveBack need await tells leaves
-returns-3 c = rw (lt-ltb _ _ (c .before .before .before .if1 .left), le-leb _ _ (c .before .if2 .left), ne-eqb _ _ (c .if3 .taken))
+unfolding giveBack need await
+returns-3 c ts =
+    let s = c .before .before .before .before .before in
+    let if1 = c .before .before .before .if1 in
+    waits _ _ _ _ (rw (
+      lt-ltb _ _ (if1 .left),
+      readers-at (now (s .args .words)) ts (s .args .bucket) (if1 .left),
+      le-leb _ _ (c .before .if2 .left),
+      ne-eqb _ _ (c .if3 .taken),
+    ))
+
+sub-give-bucket : tie.Need-sub-give-bucket
+sub-give-bucket c = search needs
+
+part-give-bucket-start : tie.Need-part-give-bucket-start
+part-give-bucket-start c = search needs
+
+part-give-bucket-end : tie.Need-part-give-bucket-end
+part-give-bucket-end c = search needs
 
 give-bucket-requires : tie.Need-give-bucket-requires
 give-bucket-requires c κs = search needs
@@ -37,25 +74,49 @@ same-length : tie.Need-same-length
 same-length c = search needs
 
 returns-4 : tie.Need-returns-4
-unfolding giveBack need await
-returns-4 c = rw (lt-ltb _ _ (c .before .before .before .before .before .before .before .before .before .if1 .left), le-leb _ _ (c .before .before .before .before .before .before .before .if2 .left), eq-eqb _ _ (c .before .before .before .before .before .before .if3 .left)) (rw (c .enum-told .given .1) at (c .before .before .before .before .give-bucket .ensures))
+returns-4 c ts =
+    let s = c .before .before .before .before .before .before .before .before .before .before .before in
+    let if1 = c .before .before .before .before .before .before .before .before .before .if1 in
+    let if2 = c .before .before .before .before .before .before .before .if2 in
+    let if3 = c .before .before .before .before .before .before .if3 in
+    let give-bucket = c .before .before .before .before .give-bucket in
+    returned (grid (now (s .args .words)) ts) (s .args .bucket)
+    (at (now (s .args .words)) (READERS + (s .args .bucket))) (if1 .left)
+    (readers-at (now (s .args .words)) ts (s .args .bucket) (if1 .left)) (if2 .left) (if3 .left) _
+    (give-bucket .last .0) (rw (pool-lent (now (s .args .words)) ts (s .pre)) at
+    (rw (c .enum-told .given .1) at (give-bucket .ensures))) _
+    (stored-pool (now (s .args .words)) (s .pre) (give-bucket .last .0) (give-bucket .kept .0) ts)
 
 same-length-2 : tie.Need-same-length-2
 same-length-2 c = search needs
 
 returns-5 : tie.Need-returns-5
-unfolding giveBack need await
-returns-5 c = rw (lt-ltb _ _ (c .before .before .before .before .before .before .before .before .before .if1 .left), le-leb _ _ (c .before .before .before .before .before .before .before .if2 .left), eq-eqb _ _ (c .before .before .before .before .before .before .if3 .left)) (rw (c .enum-told2 .given .1) at (c .before .before .before .before .give-bucket .ensures))
+returns-5 c ts =
+    let s = c .before .before .before .before .before .before .before .before .before .before .before in
+    let if1 = c .before .before .before .before .before .before .before .before .before .if1 in
+    let if2 = c .before .before .before .before .before .before .before .if2 in
+    let if3 = c .before .before .before .before .before .before .if3 in
+    let give-bucket = c .before .before .before .before .give-bucket in
+    returned (grid (now (s .args .words)) ts) (s .args .bucket)
+    (at (now (s .args .words)) (READERS + (s .args .bucket))) (if1 .left)
+    (readers-at (now (s .args .words)) ts (s .args .bucket) (if1 .left)) (if2 .left) (if3 .left) _
+    (give-bucket .last .0) (rw (pool-lent (now (s .args .words)) ts (s .pre)) at
+    (rw (c .enum-told2 .given .1) at (give-bucket .ensures))) _
+    (stored-pool (now (s .args .words)) (s .pre) (give-bucket .last .0) (give-bucket .kept .0) ts)
 
 pub return-bucket-spec : {M : Type 1} → statement M
 return-bucket-spec =
     tie.close
     (tie.spec
     returns
+    add-n
     mul-n
-    shared-slice-read-n
+    slice-read-n
     returns-2
     returns-3
+    sub-give-bucket
+    part-give-bucket-start
+    part-give-bucket-end
     give-bucket-requires
     enum-told
     enum-told-2

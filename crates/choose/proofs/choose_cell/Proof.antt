@@ -1,25 +1,16 @@
--- choose_cell does what stage 8 says: one case for each return, by the laws of the stage, with the answer about the current place; then as lock_new and rewrite_tuple do.
-use mathlib.Core.Path.{_≡_}
-use mathlib.Core.Option.{Option, none, some}
+-- choose_cell does what stage 8 says: one law for each return, by the answer about the current place; then as lock_new and rewrite_tuple do.
 use denote.Ref.{now}
-use Rattle.base.specs.Outcome.{Outcome, corrupt, done}
-use Rattle.layout.specs.declared.place.Place.{Place}
 use Rattle.layout.proofs.Answers.{read-corrupt, read-nowhere, read-at}
-use Rattle.slots.specs.Tuple.{tuplesOf}
-use Rattle.base.specs.Step.{turnTells, turnLeaves}
-use Rattle.choose.specs.Choose.{Placing, placingOf}
-use Rattle.choose.proofs.Choosing.{here, choose-corrupt, choose-nowhere, choose-other, choose-same}
+use Rattle.tables.specs.Grid.{grid}
+use Rattle.choose.specs.On.{hereOn}
+use Rattle.choose.proofs.Choosing.{choose-corrupt, choose-nowhere, choose-other, choose-same}
 use borrow.Author.Needs.{needs}
 use Rattle.choose.proofs.choose_cell.Statement.{statement}
 use Rattle.choose.proofs.choose_cell.Tie as tie
-
--- the tables at the start
-abbrev tables : tie.After-current-place → Placing
-tables c = placingOf (now (c .before .before .before .before .before .before .before .args .cells)) (tuplesOf (now (c .before .before .before .before .before .before .before .args .owners)) (now (c .before .before .before .before .before .before .before .args .xs)) (now (c .before .before .before .before .before .before .before .args .ys)) (now (c .before .before .before .before .before .before .before .args .times))) (now (c .before .before .before .before .before .before .before .args .clock))
-
--- what current_place was asked
-abbrev asked : tie.After-current-place → Outcome (Option Place)
-asked c = here (now (c .before .before .before .before .before .before .before .args .oids)) (now (c .before .before .before .before .before .before .before .args .current)) (c .before .before .before .before .before .before .before .args .oid) (c .before .before .before .before .before .before .before .args .x) (c .before .before .before .before .before .before .before .args .y)
+use Rattle.choose.proofs.current_place.Reads as current-place-reads
+use Rattle.choose.proofs.lock_new.Reads as lock-new-reads
+use Rattle.choose.proofs.rewrite_tuple.Reads as rewrite-tuple-reads
+use Rattle.layout.proofs.place.cell_of.Reads as cell-of-reads
 
 current-place-requires : tie.Need-current-place-requires
 current-place-requires c κs = search needs
@@ -47,32 +38,46 @@ same-length c = search needs
 
 returns : tie.Need-returns
 returns c =
-    let a : tie.After-current-place = c .before .before .before .before .before .before .before .before .before .before in
-    let p = c .before .before .before .before .before .before .before .here .given in
-    let e : asked a ≡ done (some (p .0 .0)) = read-at (asked a) (a .current-place .result) _ (a .current-place .ensures) (p .1) in
-    rw (choose-other _ _ (tables a) _ _ _ _ (c .before .before .before .before .before .before .before .before .before .cell-of .ensures) _ e (c .before .before .before .before .if1 .taken)) (c .before .before .lock-new2 .ensures (tables a .tuples) (tables a .clock))
+    let s = c .before .before .before .before .before .before .before .before .before .before .before .before .before in
+    let current-place = c .before .before .before .before .before .before .before .before .before .before .current-place in
+    let cell-of = c .before .before .before .before .before .before .before .before .before .cell-of in
+    let here = c .before .before .before .before .before .before .before .here in
+    let if1 = c .before .before .before .before .if1 in
+    choose-other (grid (now (s .args .words)) (now (s .args .times))) (s .args .oid) (s .args .x) (s .args .y)
+    (s .args .owner) (cell-of .ensures) _ _ _ (read-at
+    (hereOn (grid (now (s .args .words)) (now (s .args .times))) (s .args .oid) (s .args .x) (s .args .y))
+    (current-place .result) _ (current-place .ensures (now (s .args .times))) (here .given .1)) (if1 .taken)
+    (c .before .before .lock-new2 .ensures (now (s .args .times)))
 
 rewrite-tuple-requires : tie.Need-rewrite-tuple-requires
 rewrite-tuple-requires c κs = search needs
 
-returns-2 : tie.Need-returns-2
-unfolding turnTells turnLeaves
-returns-2 c =
-    let a : tie.After-current-place = c .before .before .before in
-    let e : asked a ≡ corrupt = read-corrupt (asked a) (a .current-place .result) (a .current-place .ensures) (c .enum-told .given .1) in
-    rw (choose-corrupt _ _ (tables a) _ _ _ _ e)
-
 same-length-2 : tie.Need-same-length-2
 same-length-2 c = search needs
 
-returns-3 : tie.Need-returns-3
-returns-3 c =
-    let a : tie.After-current-place = c .before .before .before .before .before .before .before in
-    let e : asked a ≡ done none = read-nowhere (asked a) (a .current-place .result) (a .current-place .ensures) (c .before .before .before .before .enum-told2 .given .1) in
-    rw (choose-nowhere _ _ (tables a) _ _ _ _ (c .before .before .before .before .before .before .cell-of .ensures) e) (c .before .before .lock-new .ensures (tables a .tuples) (tables a .clock))
+returns-2 : tie.Need-returns-2
+returns-2 c =
+    let s = c .before .before .before .before .before .before in
+    let current-place = c .before .before .before .current-place in
+    choose-corrupt (grid (now (s .args .words)) (now (s .args .times))) (s .args .oid) (s .args .x) (s .args .y)
+    (s .args .owner) (read-corrupt (hereOn (grid (now (s .args .words)) (now (s .args .times))) (s .args .oid)
+    (s .args .x) (s .args .y)) (current-place .result) (current-place .ensures (now (s .args .times)))
+    (c .enum-told .given .1))
 
 same-length-3 : tie.Need-same-length-3
 same-length-3 c = search needs
+
+returns-3 : tie.Need-returns-3
+returns-3 c =
+    let s = c .before .before .before .before .before .before .before .before .before .before in
+    let current-place = c .before .before .before .before .before .before .before .current-place in
+    let cell-of = c .before .before .before .before .before .before .cell-of in
+    let enum-told2 = c .before .before .before .before .enum-told2 in
+    choose-nowhere (grid (now (s .args .words)) (now (s .args .times))) (s .args .oid) (s .args .x) (s .args .y)
+    (s .args .owner) (cell-of .ensures) _ _ (read-nowhere
+    (hereOn (grid (now (s .args .words)) (now (s .args .times))) (s .args .oid) (s .args .x) (s .args .y))
+    (current-place .result) (current-place .ensures (now (s .args .times))) (enum-told2 .given .1))
+    (c .before .before .lock-new .ensures (now (s .args .times)))
 
 same-length-4 : tie.Need-same-length-4
 same-length-4 c = search needs
@@ -80,15 +85,19 @@ same-length-4 c = search needs
 same-length-5 : tie.Need-same-length-5
 same-length-5 c = search needs
 
-same-length-6 : tie.Need-same-length-6
-same-length-6 c = search needs
-
 returns-4 : tie.Need-returns-4
 returns-4 c =
-    let a : tie.After-current-place = c .before .before .before .before .before .before .before .before .before .before .before .before .before .before .before .before .before .before .before in
-    let p = c .before .before .before .before .before .before .before .before .before .before .before .before .before .before .before .before .here .given in
-    let e : asked a ≡ done (some (p .0 .0)) = read-at (asked a) (a .current-place .result) _ (a .current-place .ensures) (p .1) in
-    rw (choose-same _ _ (tables a) _ _ _ _ (c .before .before .before .before .before .before .before .before .before .before .before .before .before .before .before .before .before .before .cell-of .ensures) _ e (c .before .before .before .before .before .before .before .before .before .before .before .before .before .if1 .left)) (c .before .before .before .before .before .before .before .rewrite-tuple .ensures (tables a .cells))
+    let s = c .before .before .before .before .before .before .before .before .before .before .before .before .before .before .before in
+    let current-place = c .before .before .before .before .before .before .before .before .before .before .before .before .current-place in
+    let cell-of = c .before .before .before .before .before .before .before .before .before .before .before .cell-of in
+    let here = c .before .before .before .before .before .before .before .before .before .here in
+    let if1 = c .before .before .before .before .before .before .if1 in
+    let rewrite-tuple = c .before .before .before .rewrite-tuple in
+    choose-same (grid (now (s .args .words)) (now (s .args .times))) (s .args .oid) (s .args .x) (s .args .y)
+    (s .args .owner) (cell-of .ensures) _ _ _ (read-at
+    (hereOn (grid (now (s .args .words)) (now (s .args .times))) (s .args .oid) (s .args .x) (s .args .y))
+    (current-place .result) _ (current-place .ensures (now (s .args .times))) (here .given .1)) (if1 .left)
+    (rewrite-tuple .ensures)
 
 pub choose-cell-spec : {M : Type 1} → statement M
 choose-cell-spec =
@@ -104,11 +113,10 @@ choose-cell-spec =
     same-length
     returns
     rewrite-tuple-requires
-    returns-2
     same-length-2
-    returns-3
+    returns-2
     same-length-3
+    returns-3
     same-length-4
     same-length-5
-    same-length-6
     returns-4)

@@ -1,22 +1,27 @@
 -- current_place reads the current place: by the test of the point and the end of the search, then as read_place answers.
 use mathlib.Core.Path.{sym, _∙_}
+use denote.Ref.{now}
 use borrow.Author.Tests.{not-true, not-false}
-use Rattle.base.specs.Outcome.{need, tells}
-use Rattle.index.proofs.Probe.{find-search}
-use Rattle.stage.specs.Turn.{atEntry}
+use Rattle.tables.specs.Grid.{grid}
+use Rattle.choose.proofs.Choosing.{here-off, here-missing, here-read}
 use borrow.Author.Needs.{needs}
 use Rattle.choose.proofs.current_place.Statement.{statement}
 use Rattle.choose.proofs.current_place.Tie as tie
+use Rattle.index.proofs.place.read_place.Reads as read-place-reads
+use Rattle.tables.proofs.seek.seek_object.Reads as seek-object-reads
+use Rattle.layout.proofs.place.on_grid.Reads as on-grid-reads
 
 on-grid-requires : tie.Need-on-grid-requires
 on-grid-requires c κs = search needs
 
 returns : tie.Need-returns
-unfolding need tells
-returns c = rw (sym (c .before .on-grid .ensures) ∙ not-true (c .before .on-grid .result) (c .if1 .taken))
+returns c ts =
+    let s = c .before .before .before in
+    here-off (grid (now (s .args .words)) ts) (s .args .oid) (s .args .x) (s .args .y)
+    (sym (c .before .on-grid .ensures) ∙ not-true (c .before .on-grid .result) (c .if1 .taken))
 
-find-object-requires : tie.Need-find-object-requires
-find-object-requires c κs = search needs
+seek-object-requires : tie.Need-seek-object-requires
+seek-object-requires c κs = search needs
 
 enum-known-s : tie.Need-enum-known-s
 enum-known-s c = search needs
@@ -25,15 +30,36 @@ enum-told : tie.Need-enum-told
 enum-told c = search needs
 
 returns-2 : tie.Need-returns-2
-unfolding need atEntry tells
-returns-2 c = rw (sym (c .before .before .before .before .on-grid .ensures) ∙ not-false (c .before .before .before .before .on-grid .result) (c .before .before .before .if1 .left), sym (find-search _ _ _ (c .before .before .find-object .ensures)) ∙ c .enum-told .given .1)
+returns-2 c ts =
+    let s = c .before .before .before .before .before .before in
+    let on-grid = c .before .before .before .before .on-grid in
+    let if1 = c .before .before .before .if1 in
+    here-missing (now (s .args .words)) ts (s .pre) (s .args .oid) (s .args .x) (s .args .y)
+    (sym (on-grid .ensures) ∙ not-false (on-grid .result) (if1 .left))
+    (c .before .before .seek-object .ensures ts ∙ c .enum-told .given .1)
+
+sub-read-place : tie.Need-sub-read-place
+sub-read-place c = search needs
+
+part-read-place-start : tie.Need-part-read-place-start
+part-read-place-start c = search needs
+
+part-read-place-end : tie.Need-part-read-place-end
+part-read-place-end c = search needs
 
 read-place-requires : tie.Need-read-place-requires
 read-place-requires c κs = search needs
 
 returns-3 : tie.Need-returns-3
-unfolding need atEntry
-returns-3 c = rw (sym (c .before .before .before .before .before .before .on-grid .ensures) ∙ not-false (c .before .before .before .before .before .before .on-grid .result) (c .before .before .before .before .before .if1 .left), sym (find-search _ _ _ (c .before .before .before .before .find-object .ensures)) ∙ c .before .before .s .given .1) (c .read-place .ensures)
+returns-3 c ts =
+    let s = c .before .before .before .before .before .before .before .before .before in
+    let on-grid = c .before .before .before .before .before .before .before .on-grid in
+    let if1 = c .before .before .before .before .before .before .if1 in
+    let seek-object = c .before .before .before .before .before .seek-object in
+    let found = c .before .before .before .s in
+    here-read (now (s .args .words)) ts (s .pre) (s .args .oid) (s .args .x) (s .args .y)
+    (sym (on-grid .ensures) ∙ not-false (on-grid .result) (if1 .left))
+    (seek-object .ensures ts ∙ found .given .1) _ (c .read-place .ensures)
 
 pub current-place-spec : {M : Type 1} → statement M
 current-place-spec =
@@ -41,9 +67,12 @@ current-place-spec =
     (tie.spec
     on-grid-requires
     returns
-    find-object-requires
+    seek-object-requires
     enum-known-s
     enum-told
     returns-2
+    sub-read-place
+    part-read-place-start
+    part-read-place-end
     read-place-requires
     returns-3)

@@ -1,57 +1,44 @@
--- lock_new does what `lockNew` says, whatever the tuples and the clock are: as take_lock answers.
-use Rattle.base.specs.Outcome.{andThen}
-use Rattle.base.specs.Answer.{attempt-corrupt, attempt-blocked, attempt-done}
-use Rattle.locks.specs.Lock.{take}
-use Rattle.base.specs.Step.{turnTells, turnLeaves}
-use Rattle.choose.specs.Choose.{lockNew}
+-- lock_new does what hold_cell does, seen on all tables.
+use mathlib.Core.Path.{_∙_}
+use native.Mathlib.Omega.{arith}
+use denote.Ref.{now}
+use Rattle.words.specs.Map.{CELLS}
+use Rattle.words.proofs.Parts.{part-length}
+use Rattle.choose.proofs.Choosing.{locks-new}
 use borrow.Author.Needs.{needs}
 use Rattle.choose.proofs.lock_new.Statement.{statement}
 use Rattle.choose.proofs.lock_new.Tie as tie
+use Rattle.choose.proofs.hold_cell.Reads as hold-cell-reads
 
-take-lock-requires : tie.Need-take-lock-requires
-take-lock-requires c κs = search needs
+sub-hold-cell : tie.Need-sub-hold-cell
+sub-hold-cell c = search needs
 
-enum-told : tie.Need-enum-told
-enum-told c = search needs
+part-hold-cell-start : tie.Need-part-hold-cell-start
+part-hold-cell-start c = search needs
 
-enum-told-2 : tie.Need-enum-told-2
-enum-told-2 c = search needs
+part-hold-cell-end : tie.Need-part-hold-cell-end
+part-hold-cell-end c = search needs
 
-enum-told-3 : tie.Need-enum-told-3
-enum-told-3 c = search needs
+hold-cell-requires : tie.Need-hold-cell-requires
+hold-cell-requires c κs = search needs
 
 same-length : tie.Need-same-length
 same-length c = search needs
 
 returns : tie.Need-returns
-unfolding lockNew andThen turnTells turnLeaves
-returns c = λ d t. let a = attempt-corrupt _ _ (take _ _ _) (c .before .before .before .before .take-lock .ensures) (c .enum-told .given .1) in rw (a .0, a .1)
-
-same-length-2 : tie.Need-same-length-2
-same-length-2 c = search needs
-
-returns-2 : tie.Need-returns-2
-unfolding lockNew andThen turnTells turnLeaves
-returns-2 c = λ d t. let a = attempt-blocked _ _ (take _ _ _) (c .before .before .before .before .take-lock .ensures) (c .enum-told2 .given .1) in rw (a .0, a .1)
-
-same-length-3 : tie.Need-same-length-3
-same-length-3 c = search needs
-
-returns-3 : tie.Need-returns-3
-unfolding lockNew andThen turnTells turnLeaves
-returns-3 c = λ d t. rw (attempt-done _ _ (take _ _ _) (c .before .before .before .before .take-lock .ensures) (c .enum-told3 .given .1))
+returns c ts =
+    let s = c .before .before .before .before .before in
+    locks-new (now (s .args .words)) ts (s .pre) (s .args .cell) (s .args .owner) _
+    (c .before .before .hold-cell .last .0) (c .before .before .hold-cell .kept .0 ∙ part-length
+    (now (s .args .words)) CELLS 256 (omega (arith, s .pre))) (c .before .before .hold-cell .ensures)
 
 pub lock-new-spec : {M : Type 1} → statement M
 lock-new-spec =
     tie.close
     (tie.spec
-    take-lock-requires
-    enum-told
-    enum-told-2
-    enum-told-3
+    sub-hold-cell
+    part-hold-cell-start
+    part-hold-cell-end
+    hold-cell-requires
     same-length
-    returns
-    same-length-2
-    returns-2
-    same-length-3
-    returns-3)
+    returns)

@@ -1,18 +1,23 @@
 -- delete_old does what stage 13 says: by the test of the clock, then as delete_tuple answers.
-use borrow.Author.Tests.{le-ltb, lt-ltb}
-use Rattle.base.specs.Outcome.{need, andThen}
-use Rattle.base.specs.Answer.{changed-corrupt, changed-done}
-use Rattle.slots.specs.Tuple.{delete}
-use Rattle.base.specs.Step.{turnTells, turnLeaves}
-use Rattle.stage.specs.Turn.{draw}
-use Rattle.commit.specs.Commit.{stage13}
+use denote.Ref.{now}
+use Rattle.base.specs.Table.{at}
+use Rattle.words.specs.Map.{CLOCK}
+use Rattle.tables.specs.Grid.{grid}
+use Rattle.tables.proofs.Grid.{clock-at}
+use Rattle.commit.proofs.Deleting.{delete-late, delete-lost, delete-done}
 use borrow.Author.Needs.{needs}
 use Rattle.commit.proofs.delete_old.Statement.{statement}
 use Rattle.commit.proofs.delete_old.Tie as tie
+use Rattle.slots.proofs.tuple.delete_tuple.Reads as delete-tuple-reads
+
+slice-read-last : tie.Need-slice-read-last
+slice-read-last c = search needs
 
 returns : tie.Need-returns
-unfolding stage13 draw need turnTells turnLeaves
-returns c = rw (le-ltb _ _ (c .if1 .taken))
+returns c =
+    let s = c .before .before .before in
+    delete-late (grid (now (s .args .words)) (now (s .args .times))) (s .args .place) (at (now (s .args .words)) CLOCK)
+    (clock-at (now (s .args .words)) (now (s .args .times))) (c .if1 .taken)
 
 add-time : tie.Need-add-time
 add-time c = search needs
@@ -27,23 +32,40 @@ same-length : tie.Need-same-length
 same-length c = search needs
 
 returns-2 : tie.Need-returns-2
-unfolding stage13 draw need andThen turnTells turnLeaves
-returns-2 c = let t = changed-corrupt _ _ (delete _ _ _ _) (c .before .before .before .delete-tuple .ensures) (c .enum-told .given .1) in rw (lt-ltb _ _ (c .before .before .before .before .before .if1 .left), t .0, t .1)
+returns-2 c =
+    let s = c .before .before .before .before .before .before .before .before in
+    let if1 = c .before .before .before .before .before .if1 in
+    let delete-tuple = c .before .before .before .delete-tuple in
+    delete-lost (now (s .args .words)) (now (s .args .times)) (s .pre .0) (s .args .place)
+    (at (now (s .args .words)) CLOCK) (clock-at (now (s .args .words)) (now (s .args .times))) (if1 .left)
+    (delete-tuple .last .0) (rw (c .enum-told .given .1) at (delete-tuple .ensures))
 
 enum-told-2 : tie.Need-enum-told-2
 enum-told-2 c = search needs
 
+slice-write-words : tie.Need-slice-write-words
+slice-write-words c = search needs
+
 same-length-2 : tie.Need-same-length-2
 same-length-2 c = search needs
 
+same-length-3 : tie.Need-same-length-3
+same-length-3 c = search needs
+
 returns-3 : tie.Need-returns-3
-unfolding stage13 draw need andThen turnTells turnLeaves
-returns-3 c = rw (lt-ltb _ _ (c .before .before .before .before .before .if1 .left), changed-done _ _ (delete _ _ _ _) (c .before .before .before .delete-tuple .ensures) (c .enum-told2 .given .1))
+returns-3 c =
+    let s = c .before .before .before .before .before .before .before .before in
+    let if1 = c .before .before .before .before .before .if1 in
+    let delete-tuple = c .before .before .before .delete-tuple in
+    delete-done (now (s .args .words)) (now (s .args .times)) (s .pre .0) (s .args .place)
+    (at (now (s .args .words)) CLOCK) (clock-at (now (s .args .words)) (now (s .args .times))) (if1 .left)
+    (delete-tuple .last .0) (rw (c .enum-told2 .given .1) at (delete-tuple .ensures))
 
 pub delete-old-spec : {M : Type 1} → statement M
 delete-old-spec =
     tie.close
     (tie.spec
+    slice-read-last
     returns
     add-time
     delete-tuple-requires
@@ -51,5 +73,7 @@ delete-old-spec =
     same-length
     returns-2
     enum-told-2
+    slice-write-words
     same-length-2
+    same-length-3
     returns-3)

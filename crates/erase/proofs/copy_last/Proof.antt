@@ -1,14 +1,17 @@
--- copy_last does what `stage4` says: as last_tuple answers, then as copy_tuple does.
-use Rattle.base.specs.Outcome.{andThen}
-use Rattle.base.specs.Answer.{changed-corrupt, changed-done}
-use Rattle.slots.specs.Tuple.{copy}
-use Rattle.cells.specs.Chain.{last}
-use Rattle.base.specs.Step.{turnTells, turnLeaves}
-use Rattle.erase.specs.Erase.{stage4}
+-- copy_last does what `stage4` says: as last_tuple answers, then as copy_slot does.
+use mathlib.Core.Path.{refl}
+use denote.Ref.{now}
+use Rattle.base.specs.Outcome.{nothing, ended-corrupt, ended-done}
+use Rattle.tables.specs.Tables.{withTuples}
+use Rattle.tables.specs.Grid.{grid}
+use Rattle.cells.specs.On.{lastOn, copyOn}
 use Rattle.cells.proofs.Answers.{last-corrupt, last-at}
+use Rattle.erase.proofs.Stages.{copy-none, copy-lost, copy-done}
 use borrow.Author.Needs.{needs}
 use Rattle.erase.proofs.copy_last.Statement.{statement}
 use Rattle.erase.proofs.copy_last.Tie as tie
+use Rattle.cells.proofs.copy_slot.Reads as copy-slot-reads
+use Rattle.cells.proofs.last_tuple.Reads as last-tuple-reads
 
 last-tuple-requires : tie.Need-last-tuple-requires
 last-tuple-requires c κs = search needs
@@ -23,11 +26,14 @@ same-length : tie.Need-same-length
 same-length c = search needs
 
 returns : tie.Need-returns
-unfolding stage4 andThen turnTells turnLeaves
-returns c = rw (last-corrupt (last _ _ _ _) _ (c .before .before .last-tuple .ensures) (c .enum-told .given .1))
+returns c =
+    let s = c .before .before .before .before .before in
+    copy-none (grid (now (s .args .words)) (now (s .args .times))) _ (s .args .place) (s .args .moved)
+    (last-corrupt (lastOn (grid (now (s .args .words)) (now (s .args .times))) ((s .args .place) .cell)) _
+    (c .before .before .last-tuple .ensures (now (s .args .times))) (c .enum-told .given .1)) refl
 
-copy-tuple-requires : tie.Need-copy-tuple-requires
-copy-tuple-requires c κs = search needs
+copy-slot-requires : tie.Need-copy-slot-requires
+copy-slot-requires c κs = search needs
 
 enum-told-2 : tie.Need-enum-told-2
 enum-told-2 c = search needs
@@ -41,31 +47,37 @@ same-length-2 c = search needs
 same-length-3 : tie.Need-same-length-3
 same-length-3 c = search needs
 
+returns-2 : tie.Need-returns-2
+returns-2 c =
+    let s = c .before .before .before .before .before .before .before .before .before .before .before .before .before .before in
+    let e = ended-corrupt nothing (withTuples (grid (now (s .args .words)) (now (s .args .times))))
+    (grid (now (s .args .words)) (now (s .args .times)))
+    (grid (c .before .before .before .before .before .copy-slot .last .0)
+    (c .before .before .before .before .before .copy-slot .last .1 .0))
+    (copyOn (grid (now (s .args .words)) (now (s .args .times))) _ _ _ _)
+    (rw (c .enum-told2 .given .1) at (c .before .before .before .before .before .copy-slot .ensures)) in
+    copy-lost (grid (now (s .args .words)) (now (s .args .times))) _ (s .args .place) (s .args .moved) _
+    (last-at (lastOn (grid (now (s .args .words)) (now (s .args .times))) ((s .args .place) .cell)) _
+    (c .before .before .before .before .before .before .before .before .before .before .before .last-tuple .ensures (now (s .args .times))) _ (c .before .before .before .before .before .before .before .before .before .found .given .1)) (e .0) (e .1)
+
 same-length-4 : tie.Need-same-length-4
 same-length-4 c = search needs
 
 same-length-5 : tie.Need-same-length-5
 same-length-5 c = search needs
 
-returns-2 : tie.Need-returns-2
-unfolding stage4 andThen turnTells turnLeaves
-returns-2 c = let t = changed-corrupt _ _ (copy _ _ _ _ _) (c .before .before .before .before .before .before .before .before .before .copy-tuple .ensures) (c .enum-told2 .given .1) in rw (last-at (last _ _ _ _) _ (c .before .before .before .before .before .before .before .before .before .before .before .before .before .before .before .before .before .last-tuple .ensures) _ (c .before .before .before .before .before .before .before .before .before .before .before .before .before .before .before .found .given .1), t .0, t .1)
-
-same-length-6 : tie.Need-same-length-6
-same-length-6 c = search needs
-
-same-length-7 : tie.Need-same-length-7
-same-length-7 c = search needs
-
-same-length-8 : tie.Need-same-length-8
-same-length-8 c = search needs
-
-same-length-9 : tie.Need-same-length-9
-same-length-9 c = search needs
-
 returns-3 : tie.Need-returns-3
-unfolding stage4 andThen turnTells turnLeaves
-returns-3 c = rw (last-at (last _ _ _ _) _ (c .before .before .before .before .before .before .before .before .before .before .before .before .before .before .before .before .before .last-tuple .ensures) _ (c .before .before .before .before .before .before .before .before .before .before .before .before .before .before .before .found .given .1), changed-done _ _ (copy _ _ _ _ _) (c .before .before .before .before .before .before .before .before .before .copy-tuple .ensures) (c .enum-told3 .given .1))
+returns-3 c =
+    let s = c .before .before .before .before .before .before .before .before .before .before .before .before .before .before in
+    let e = ended-done nothing (withTuples (grid (now (s .args .words)) (now (s .args .times))))
+    (grid (now (s .args .words)) (now (s .args .times)))
+    (grid (c .before .before .before .before .before .copy-slot .last .0)
+    (c .before .before .before .before .before .copy-slot .last .1 .0))
+    (copyOn (grid (now (s .args .words)) (now (s .args .times))) _ _ _ _)
+    (rw (c .enum-told3 .given .1) at (c .before .before .before .before .before .copy-slot .ensures)) in
+    copy-done (grid (now (s .args .words)) (now (s .args .times))) _ (s .args .place) (s .args .moved) _
+    (last-at (lastOn (grid (now (s .args .words)) (now (s .args .times))) ((s .args .place) .cell)) _
+    (c .before .before .before .before .before .before .before .before .before .before .before .last-tuple .ensures (now (s .args .times))) _ (c .before .before .before .before .before .before .before .before .before .found .given .1)) (e .0) (e .1) (e .3)
 
 pub copy-last-spec : {M : Type 1} → statement M
 copy-last-spec =
@@ -76,16 +88,12 @@ copy-last-spec =
     enum-told
     same-length
     returns
-    copy-tuple-requires
+    copy-slot-requires
     enum-told-2
     enum-told-3
     same-length-2
     same-length-3
+    returns-2
     same-length-4
     same-length-5
-    returns-2
-    same-length-6
-    same-length-7
-    same-length-8
-    same-length-9
     returns-3)

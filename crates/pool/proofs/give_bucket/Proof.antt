@@ -19,7 +19,9 @@ slice-read-height c = search needs
 
 returns-3 : tie.Need-returns-3
 unfolding give height withHeight need tells leaves
-returns-3 c = rw (eq-eqb _ _ (c .before .before .before .if1 .left), lt-ltb _ _ (c .before .before .if2 .left), le-ltb _ _ (c .if3 .taken))
+returns-3 c =
+    let if1 = c .before .before .before .if1 in
+    rw (eq-eqb _ _ (if1 .left), lt-ltb _ _ (c .before .before .if2 .left), le-ltb _ _ (c .if3 .taken))
 
 cast-top : tie.Need-cast-top
 cast-top c = search needs
@@ -41,7 +43,9 @@ same-length c = search needs
 
 returns-4 : tie.Need-returns-4
 unfolding give height withHeight need tells leaves
-returns-4 c = rw (eq-eqb _ _ (c .before .before .before .if1 .left), lt-ltb _ _ (c .before .before .if2 .left), lt-ltb _ _ (c .if3 .left))
+returns-4 c =
+    let if1 = c .before .before .before .if1 in
+    rw (eq-eqb _ _ (if1 .left), lt-ltb _ _ (c .before .before .if2 .left), lt-ltb _ _ (c .if3 .left))
 
 pub give-bucket-spec : {M : Type 1} → statement M
 give-bucket-spec =

@@ -42,7 +42,8 @@ loop-less : tie.Need-loop-less Inv-loop μ-loop
 loop-less c = search needs
 
 loop-again : tie.Need-loop-again Inv-loop μ-loop
-loop-again c = (search needs, rw length-set (search needs), omega arith, filled _ _ (omega arith) (c .before .loop .inv .3))
+loop-again c =
+    (search needs, rw length-set (search needs), omega arith, filled _ _ (omega arith) (c .before .loop .inv .3))
 
 same-length : tie.Need-same-length Inv-loop μ-loop
 same-length c = search needs

@@ -1,26 +1,43 @@
 -- write_new does what stage 10 says: by the tests of the point and of the clock, then as write_tuple answers.
 use mathlib.Core.Path.{sym, _∙_}
-use borrow.Author.Tests.{le-ltb, lt-ltb, not-true, not-false}
-use Rattle.base.specs.Outcome.{need, andThen}
-use Rattle.cells.specs.Chain.{write}
-use Rattle.base.specs.Step.{turnTells, turnLeaves}
-use Rattle.stage.specs.Turn.{draw}
-use Rattle.write.specs.Write.{stage10}
+use Prim.Native.Nat.{_+_}
+use denote.Ref.{now}
+use borrow.Author.Tests.{not-true, not-false}
+use Rattle.base.specs.Table.{at}
+use Rattle.words.specs.Map.{CLOCK}
+use Rattle.tables.specs.Tables.{withTuples}
+use Rattle.tables.specs.Grid.{grid}
+use Rattle.tables.proofs.Grid.{clock-at, set-clock}
+use Rattle.cells.specs.Chain.{Writing}
+use Rattle.cells.specs.On.{writeOn}
 use Rattle.cells.proofs.Answers.{written-corrupt, written-at}
+use Rattle.write.proofs.Stages.{write-off, write-late, write-lost, write-done}
 use borrow.Author.Needs.{needs}
 use Rattle.write.proofs.write_new.Statement.{statement}
 use Rattle.write.proofs.write_new.Tie as tie
+use Rattle.cells.proofs.write_tuple.Reads as write-tuple-reads
+use Rattle.layout.proofs.place.cell_of.Reads as cell-of-reads
+use Rattle.layout.proofs.place.on_grid.Reads as on-grid-reads
 
 on-grid-requires : tie.Need-on-grid-requires
 on-grid-requires c κs = search needs
 
 returns : tie.Need-returns
-unfolding stage10 need turnTells turnLeaves
-returns c = rw (sym (c .before .on-grid .ensures) ∙ not-true (c .before .on-grid .result) (c .if1 .taken))
+returns c =
+    let s = c .before .before .before in
+    write-off (grid (now (s .args .words)) (now (s .args .times))) (s .args .oid) (s .args .x) (s .args .y)
+    (sym (c .before .on-grid .ensures) ∙ not-true (c .before .on-grid .result) (c .if1 .taken))
+
+slice-read-last : tie.Need-slice-read-last
+slice-read-last c = search needs
 
 returns-2 : tie.Need-returns-2
-unfolding stage10 draw need turnTells turnLeaves
-returns-2 c = rw (sym (c .before .before .before .on-grid .ensures) ∙ not-false (c .before .before .before .on-grid .result) (c .before .before .if1 .left), le-ltb _ _ (c .if2 .taken))
+returns-2 c =
+    let s = c .before .before .before .before .before in
+    let on-grid = c .before .before .before .on-grid in
+    write-late (grid (now (s .args .words)) (now (s .args .times))) (s .args .oid) (s .args .x) (s .args .y)
+    (sym (on-grid .ensures) ∙ not-false (on-grid .result) (c .before .before .if1 .left))
+    (at (now (s .args .words)) CLOCK) (clock-at (now (s .args .words)) (now (s .args .times))) (c .if2 .taken)
 
 add-time : tie.Need-add-time
 add-time c = search needs
@@ -43,31 +60,51 @@ same-length c = search needs
 same-length-2 : tie.Need-same-length-2
 same-length-2 c = search needs
 
+returns-3 : tie.Need-returns-3
+returns-3 c =
+    let s = c .before .before .before .before .before .before .before .before .before .before .before .before .before .before in
+    let on-grid = c .before .before .before .before .before .before .before .before .before .before .before .before .on-grid in
+    let if1 = c .before .before .before .before .before .before .before .before .before .before .before .if1 in
+    let if2 = c .before .before .before .before .before .before .before .before .before .if2 in
+    let cell-of = c .before .before .before .before .before .before .before .before .cell-of in
+    let write-tuple = c .before .before .before .before .before .write-tuple in
+    let e = written-corrupt (λ (w : Writing). withTuples (grid (now (s .args .words)) (now (s .args .times)))
+    (w .tuples)) (grid (now (s .args .words)) (now (s .args .times)))
+    (grid (write-tuple .last .0) (write-tuple .last .1 .0))
+    (writeOn (grid (now (s .args .words)) (now (s .args .times))) _ (s .args .oid) (s .args .x) (s .args .y)
+    ((at (now (s .args .words)) CLOCK) + 1)) (write-tuple .ensures) (c .enum-told .given .1) in
+    write-lost (grid (now (s .args .words)) (now (s .args .times))) (s .args .oid) (s .args .x) (s .args .y)
+    (sym (on-grid .ensures) ∙ not-false (on-grid .result) (if1 .left)) (at (now (s .args .words)) CLOCK)
+    (clock-at (now (s .args .words)) (now (s .args .times))) (if2 .left)
+    (grid (write-tuple .last .0) (write-tuple .last .1 .0)) _ (cell-of .ensures) (e .0) (e .1)
+
+slice-write-words : tie.Need-slice-write-words
+slice-write-words c = search needs
+
 same-length-3 : tie.Need-same-length-3
 same-length-3 c = search needs
 
 same-length-4 : tie.Need-same-length-4
 same-length-4 c = search needs
 
-returns-3 : tie.Need-returns-3
-unfolding stage10 draw need andThen turnTells turnLeaves
-returns-3 c = let t = written-corrupt _ _ (write _ _ _ _ _ _ _ _) (c .before .before .before .before .before .before .before .before .before .write-tuple .result) (c .before .before .before .before .before .before .before .before .before .write-tuple .ensures) (c .enum-told .given .1) in rw (sym (c .before .before .before .before .before .before .before .before .before .before .before .before .before .before .before .before .before .before .on-grid .ensures) ∙ not-false (c .before .before .before .before .before .before .before .before .before .before .before .before .before .before .before .before .before .before .on-grid .result) (c .before .before .before .before .before .before .before .before .before .before .before .before .before .before .before .before .before .if1 .left), lt-ltb _ _ (c .before .before .before .before .before .before .before .before .before .before .before .before .before .before .before .if2 .left), sym (c .before .before .before .before .before .before .before .before .before .before .before .before .before .before .cell-of .ensures), t .0, t .1)
-
-same-length-5 : tie.Need-same-length-5
-same-length-5 c = search needs
-
-same-length-6 : tie.Need-same-length-6
-same-length-6 c = search needs
-
-same-length-7 : tie.Need-same-length-7
-same-length-7 c = search needs
-
-same-length-8 : tie.Need-same-length-8
-same-length-8 c = search needs
-
 returns-4 : tie.Need-returns-4
-unfolding stage10 draw need andThen turnTells turnLeaves
-returns-4 c = rw (sym (c .before .before .before .before .before .before .before .before .before .before .before .before .before .before .before .before .before .before .before .on-grid .ensures) ∙ not-false (c .before .before .before .before .before .before .before .before .before .before .before .before .before .before .before .before .before .before .before .on-grid .result) (c .before .before .before .before .before .before .before .before .before .before .before .before .before .before .before .before .before .before .if1 .left), lt-ltb _ _ (c .before .before .before .before .before .before .before .before .before .before .before .before .before .before .before .before .if2 .left), sym (c .before .before .before .before .before .before .before .before .before .before .before .before .before .before .before .cell-of .ensures), written-at _ _ (write _ _ _ _ _ _ _ _) (c .before .before .before .before .before .before .before .before .before .before .write-tuple .result) (c .before .before .before .before .before .before .before .before .before .before .write-tuple .ensures) _ (c .before .written .given .1))
+returns-4 c =
+    let s = c .before .before .before .before .before .before .before .before .before .before .before .before .before .before .before in
+    let on-grid = c .before .before .before .before .before .before .before .before .before .before .before .before .before .on-grid in
+    let if1 = c .before .before .before .before .before .before .before .before .before .before .before .before .if1 in
+    let if2 = c .before .before .before .before .before .before .before .before .before .before .if2 in
+    let cell-of = c .before .before .before .before .before .before .before .before .before .cell-of in
+    let write-tuple = c .before .before .before .before .before .before .write-tuple in
+    let e = written-at (λ (w : Writing). withTuples (grid (now (s .args .words)) (now (s .args .times))) (w .tuples))
+    (grid (now (s .args .words)) (now (s .args .times))) (grid (write-tuple .last .0) (write-tuple .last .1 .0))
+    (writeOn (grid (now (s .args .words)) (now (s .args .times))) _ (s .args .oid) (s .args .x) (s .args .y)
+    ((at (now (s .args .words)) CLOCK) + 1)) (write-tuple .ensures) _ (c .before .written .given .1) in
+    write-done (grid (now (s .args .words)) (now (s .args .times))) (s .args .oid) (s .args .x) (s .args .y)
+    (sym (on-grid .ensures) ∙ not-false (on-grid .result) (if1 .left)) (at (now (s .args .words)) CLOCK)
+    (clock-at (now (s .args .words)) (now (s .args .times))) (if2 .left) _ _ (cell-of .ensures) _ (e .0) (e .1)
+    (e .2) (grid (write-tuple .last .0) (write-tuple .last .1 .0)) (e .3)
+    (set-clock (write-tuple .last .0) (write-tuple .last .1 .0) (write-tuple .kept .0 ∙ s .pre .0)
+    ((at (now (s .args .words)) CLOCK) + 1))
 
 pub write-new-spec : {M : Type 1} → statement M
 write-new-spec =
@@ -75,6 +112,7 @@ write-new-spec =
     (tie.spec
     on-grid-requires
     returns
+    slice-read-last
     returns-2
     add-time
     cell-of-requires
@@ -83,11 +121,8 @@ write-new-spec =
     enum-told
     same-length
     same-length-2
+    returns-3
+    slice-write-words
     same-length-3
     same-length-4
-    returns-3
-    same-length-5
-    same-length-6
-    same-length-7
-    same-length-8
     returns-4)

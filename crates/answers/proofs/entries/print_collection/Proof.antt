@@ -19,7 +19,9 @@ same-length c = search needs
 
 returns : tie.Need-returns
 unfolding collection
-returns c = printed-both (c .before .before .before .before .before .before .print-collected .ensures) (c .before .before .print-entries .ensures)
+returns c =
+    let print-collected = c .before .before .before .before .before .before .print-collected in
+    printed-both (print-collected .ensures) (c .before .before .print-entries .ensures)
 
 pub print-collection-spec : {M : Type 1} → statement M
 print-collection-spec =

@@ -18,7 +18,13 @@ abbrev μ-loop : tie.MeasureT-loop
 μ-loop out₀ at list entries place₀ i₀ out place i = entries - i
 
 loop-holds : tie.Need-loop-holds Inv-loop μ-loop
-loop-holds c = (search needs, search needs, printed-as (entries-none (now (c .before .before .args .list))) (printed-none (now (c .before .before .args .out)) (c .before .before .args .at)))
+loop-holds c =
+    let s = c .before .before in (
+      search needs,
+      search needs,
+      printed-as (entries-none (now (s .args .list)))
+          (printed-none (now (s .args .out)) (s .args .at)),
+    )
 
 mul-print-entry : tie.Need-mul-print-entry Inv-loop μ-loop
 mul-print-entry c = search needs

@@ -45,13 +45,17 @@ print-number-slice-write-out : (t : ℕ) → print-number-lts.Need-slice-write-o
   print-number-below t,
   print-number.Post,
 ) (print-number-at t) print-number.Post
-print-number-slice-write-out t c = omega (arith, c .before .before .pre .1, one-length (c .before .before .args .n) (omega arith))
+print-number-slice-write-out t c =
+    let s = c .before .before in
+    omega (arith, s .pre .1, one-length (s .args .n) (omega arith))
 
 print-number-add-result : (t : ℕ) → print-number-lts.Need-add-result (
   print-number-below t,
   print-number.Post,
 ) (print-number-at t) print-number.Post
-print-number-add-result t c = omega (arith, c .before .before .pre .1, one-length (c .before .before .args .n) (omega arith))
+print-number-add-result t c =
+    let s = c .before .before in
+    omega (arith, s .pre .1, one-length (s .args .n) (omega arith))
 
 print-number-same-length : (t : ℕ) → print-number-lts.Need-same-length (
   print-number-below t,
@@ -63,7 +67,9 @@ print-number-returns : (t : ℕ) → print-number-lts.Need-returns (
   print-number-below t,
   print-number.Post,
 ) (print-number-at t) print-number.Post
-print-number-returns t c = printed-one (now (c .before .before .args .out)) (c .before .before .args .at) (c .before .before .args .n) (omega arith)
+print-number-returns t c =
+    let s = c .before .before in
+    printed-one (now (s .args .out)) (s .args .at) (s .args .n) (omega arith)
 
 print-number-print-number-requires : (t : ℕ) → print-number-lts.Need-print-number-requires (
   print-number-below t,
@@ -89,25 +95,47 @@ print-number-slice-write-out-2 : (t : ℕ) → print-number-lts.Need-slice-write
   print-number-below t,
   print-number.Post,
 ) (print-number-at t) print-number.Post
-print-number-slice-write-out-2 t c = omega (arith, c .before .before .before .before .before .before .pre .1, c .before .before .print-number .ensures .behind, c .before .before .print-number .kept .0, digits-short (c .before .before .before .before .before .before .args .n) (omega arith))
+print-number-slice-write-out-2 t c =
+    let s = c .before .before .before .before .before .before in
+    omega (
+      arith,
+      s .pre .1,
+      c .before .before .print-number .ensures .behind,
+      c .before .before .print-number .kept .0,
+      digits-short (s .args .n) (omega arith),
+    )
 
 print-number-add-result-2 : (t : ℕ) → print-number-lts.Need-add-result-2 (
   print-number-below t,
   print-number.Post,
 ) (print-number-at t) print-number.Post
-print-number-add-result-2 t c = omega (arith, c .before .before .before .before .before .before .pre .1, c .before .before .print-number .ensures .behind, c .before .before .print-number .kept .0, digits-short (c .before .before .before .before .before .before .args .n) (omega arith))
+print-number-add-result-2 t c =
+    let s = c .before .before .before .before .before .before in
+    omega (
+      arith,
+      s .pre .1,
+      c .before .before .print-number .ensures .behind,
+      c .before .before .print-number .kept .0,
+      digits-short (s .args .n) (omega arith),
+    )
 
 print-number-same-length-2 : (t : ℕ) → print-number-lts.Need-same-length-2 (
   print-number-below t,
   print-number.Post,
 ) (print-number-at t) print-number.Post
-print-number-same-length-2 t c = length-set (c .before .before .print-number .last .0) (c .before .before .print-number .result) _ ∙ c .before .before .print-number .kept .0
+print-number-same-length-2 t c =
+    length-set (c .before .before .print-number .last .0) (c .before .before .print-number .result) _ ∙
+    c .before .before .print-number .kept .0
 
 print-number-returns-2 : (t : ℕ) → print-number-lts.Need-returns-2 (
   print-number-below t,
   print-number.Post,
 ) (print-number-at t) print-number.Post
-print-number-returns-2 t c = printed-more (now (c .before .before .before .before .before .before .args .out)) (c .before .before .print-number .last .0) (c .before .before .before .before .before .before .args .at) (c .before .before .print-number .result) (c .before .before .before .before .before .before .args .n) (omega arith) (c .before .before .print-number .ensures)
+print-number-returns-2 t c =
+    let s = c .before .before .before .before .before .before in
+    printed-more (now (s .args .out)) (c .before .before .print-number .last .0) (s .args .at)
+    (c .before .before .print-number .result) (s .args .n) (omega arith)
+    (c .before .before .print-number .ensures)
 
 pub +print-number-spec : {M : Type 1} → statement M
 +print-number-spec = close μ-print-number λ t. print-number-lts.spec (

@@ -7,20 +7,42 @@ use Rattle.answers.proofs.numbers.print_closed.Statement.{statement}
 use Rattle.answers.proofs.numbers.print_closed.Tie as tie
 
 print-number-requires : tie.Need-print-number-requires
-print-number-requires c κs = omega (arith, c .before .before .pre, closed-length (c .before .before .args .n) (c .before .before .args .end))
+print-number-requires c κs =
+    let s = c .before .before in
+    omega (arith, s .pre, closed-length (s .args .n) (s .args .end))
 
 slice-write-out : tie.Need-slice-write-out
-slice-write-out c = omega (arith, c .before .before .before .before .before .pre, closed-length (c .before .before .before .before .before .args .n) (c .before .before .before .before .before .args .end), c .before .before .print-number .ensures .behind, c .before .before .print-number .kept .0)
+slice-write-out c =
+    let s = c .before .before .before .before .before in
+    omega (
+      arith,
+      s .pre,
+      closed-length (s .args .n) (s .args .end),
+      c .before .before .print-number .ensures .behind,
+      c .before .before .print-number .kept .0,
+    )
 
 add-result : tie.Need-add-result
-add-result c = omega (arith, c .before .before .before .before .before .pre, closed-length (c .before .before .before .before .before .args .n) (c .before .before .before .before .before .args .end), c .before .before .print-number .ensures .behind, c .before .before .print-number .kept .0)
+add-result c =
+    let s = c .before .before .before .before .before in
+    omega (
+      arith,
+      s .pre,
+      closed-length (s .args .n) (s .args .end),
+      c .before .before .print-number .ensures .behind,
+      c .before .before .print-number .kept .0,
+    )
 
 same-length : tie.Need-same-length
 same-length c = search needs
 
 returns : tie.Need-returns
 unfolding closed
-returns c = printed-both (c .before .before .print-number .ensures) (printed-byte (c .before .before .print-number .last .0) (c .before .before .print-number .result) (c .before .before .before .before .before .args .end))
+returns c =
+    let args = c .before .before .before .before .before .args in
+    printed-both (c .before .before .print-number .ensures)
+    (printed-byte (c .before .before .print-number .last .0) (c .before .before .print-number .result)
+    (args .end))
 
 pub print-closed-spec : {M : Type 1} → statement M
 print-closed-spec =

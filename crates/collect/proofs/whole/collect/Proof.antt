@@ -1,34 +1,133 @@
--- collect does what `collectInto` says: what hand_over ensures for all tables that have these lengths and lists, on the tables that were lent.
+-- collect does what `collectInto` says: a law of Asked.antt for each answer of `admit`, and the list is as write_entries leaves it.
 use mathlib.Core.Path.{_≡_, refl, sym, _∙_}
 use mathlib.Core.Bool.{Bool}
+use native.Mathlib.Omega.{arith}
+use lib.ListN.{length}
 use denote.Ref.{now}
+use Rattle.words.specs.Map.{HITS, HITS-SIZE, WORDS}
+use Rattle.words.specs.Words.{hitsIn}
+use Rattle.hits.specs.Hits.{hitsAt}
 use Rattle.tables.specs.Tables.{Tables, rightLengths}
-use Rattle.tables.proofs.Sized.{lengths}
-use Rattle.calls.specs.Call.{gridTables}
+use Rattle.tables.specs.Grid.{grid}
+use Rattle.tables.proofs.Grid.{grid-lengths, words-said, long}
+use Rattle.collect.proofs.Asked.{Passed, accepted-passed, handed-none, handed-over}
 use borrow.Author.Needs.{needs}
 use Rattle.collect.proofs.whole.collect.Statement.{statement}
 use Rattle.collect.proofs.whole.collect.Tie as tie
+use Rattle.collect.proofs.admission.admit.Reads as admit-reads
+use Rattle.collect.proofs.entries.write_entries.Reads as write-entries-reads
+use Rattle.collect.proofs.whole.idle.Reads as idle-reads
+use Rattle.tables.proofs.lengths.right_words.Reads as right-words-reads
 
 -- the tables that were lent
 abbrev whole : tie.Start → Tables
-whole s = gridTables (now (s .args .first)) (now (s .args .cells)) (now (s .args .count)) (now (s .args .next)) (now (s .args .readers)) (now (s .args .owners)) (now (s .args .xs)) (now (s .args .ys)) (now (s .args .times)) (now (s .args .oids)) (now (s .args .locks)) (now (s .args .current)) (now (s .args .previous)) (now (s .args .pool)) (now (s .args .hits)) (now (s .args .hitxs)) (now (s .args .hitys)) (now (s .args .clock))
+whole s = grid (now (s .args .words)) (now (s .args .times))
 
--- what right_all answered is what `rightLengths` says of them
-sized : (c : tie.After-right-all) {b : Bool} → c .right-all .result ≡ b → rightLengths (whole (c .before .before .before .before .before .before .before .before .before .before .before .before .before .before .before .before .before .before)) ≡ b
-unfolding rightLengths
-sized c e = sym (c .right-all .ensures) ∙ e
+-- what right_words answered is what `rightLengths` says of them
+sized : (c : tie.After-right-words) → rightLengths (whole (c .before .before .before)) ≡ c .right-words .result
+sized c =
+    let s = c .before .before .before in
+    sym (grid-lengths (now (s .args .words)) (now (s .args .times))) ∙ sym (c .right-words .ensures)
 
-right-all-requires : tie.Need-right-all-requires
-right-all-requires c κs = search needs
+-- what an accepted collection has passed
+accepted : (c : tie.After-admission2) → Passed (c .before .before .before .right-words .result) (c .before .before .before .before .before .before .args .lane) (length (now (c .before .before .before .before .before .before .args .out))) (c .admission2 .given .0 .0)
+accepted c = accepted-passed _ _ _ _ _ (c .before .before .admit .ensures) _ (c .admission2 .given .1)
 
-hand-over-requires : tie.Need-hand-over-requires
-hand-over-requires c κs = λ e. let L = lengths (whole (c .before .before .before .before .before .before .before .before .before .before .before .before .before .before .before .before .before .before .before)) (sized (c .before) e) in (L .hits, L .hitxs, L .hitys)
+-- so the words are all there
+lent : (c : tie.After-admission2) → length (now (c .before .before .before .before .before .before .args .words)) ≡ WORDS
+lent c =
+    let s = c .before .before .before .before .before .before in
+    words-said (now (s .args .words)) (now (s .args .times)) (sized (c .before .before .before) ∙ accepted c .sizes) .0
+
+right-words-requires : tie.Need-right-words-requires
+right-words-requires c κs = search needs
+
+admit-requires : tie.Need-admit-requires
+admit-requires c κs = search needs
+
+enum-known-admission : tie.Need-enum-known-admission
+enum-known-admission c = search needs
+
+enum-known-admission-2 : tie.Need-enum-known-admission-2
+enum-known-admission-2 c = search needs
+
+cast-size : tie.Need-cast-size
+cast-size c = search needs
+
+sub-write-entries : tie.Need-sub-write-entries
+sub-write-entries c = search needs
+
+part-write-entries-start : tie.Need-part-write-entries-start
+part-write-entries-start c = search needs
+
+part-write-entries-end : tie.Need-part-write-entries-end
+part-write-entries-end c = omega (arith, lent (c .before .before))
+
+mul-write-entries : tie.Need-mul-write-entries
+mul-write-entries c = search needs
+
+write-entries-requires : tie.Need-write-entries-requires
+write-entries-requires c κs =
+    let args = c .before .before .before .before .before .before .before .before .before .before .args in (
+      long (now (args .words)) (lent (c .before .before .before .before)) HITS HITS-SIZE (omega arith),
+      omega (
+        arith,
+        accepted (c .before .before .before .before) .lane,
+        accepted
+            (c .before .before .before .before) .few,
+      ),
+      accepted (c .before .before .before .before) .room,
+    )
+
+idle-requires : tie.Need-idle-requires
+idle-requires c κs = search needs
+
+mul-after : tie.Need-mul-after
+mul-after c = omega (arith, accepted (c .before .before .before .before .before .before .before .before) .lane)
+
+array-set-from-after : tie.Need-array-set-from-after
+array-set-from-after c = accepted (c .before .before .before .before .before .before .before .before) .lane
+
+mul-t21 : tie.Need-mul-t21
+mul-t21 c = search needs
+
+returns : tie.Need-returns
+returns c =
+    let admit = c .before .before .before .admit in
+    handed-none _ _ _ _ _ (admit .ensures) (whole (c .before .before .before .before .before .before .before))
+    (sized (c .before .before .before .before)) _ (c .before .admission .given .1)
 
 same-length : tie.Need-same-length
 same-length c = search needs
 
-returns : tie.Need-returns
-returns c = c .before .before .hand-over .ensures (whole (c .before .before .before .before .before .before .before .before .before .before .before .before .before .before .before .before .before .before .before .before .before .before)) (sized (c .before .before .before .before) refl) refl
+returns-2 : tie.Need-returns-2
+unfolding grid
+returns-2 c =
+    let args = c .before .before .before .before .before .before .before .before .before .before .before .before .before .before .args in
+    let admit = c .before .before .before .before .before .before .before .before .before .before .admit in
+    let admission2 = c .before .before .before .before .before .before .before .before .admission2 in
+    let write-entries = c .before .before .before .write-entries in
+    handed-over _ _ _ _ _ (admit .ensures) (whole
+    (c .before .before .before .before .before .before .before .before .before .before .before .before .before .before)) (sized (c .before .before .before .before .before .before .before .before .before .before .before)) _ (admission2 .given .1) (hitsAt (hitsIn (now (args .words)))) refl _ (write-entries .ensures) _ (c .idle .ensures) _ (omega arith) _ (omega arith)
 
 pub collect-spec : {M : Type 1} → statement M
-collect-spec = tie.close (tie.spec right-all-requires hand-over-requires same-length returns)
+collect-spec =
+    tie.close
+    (tie.spec
+    right-words-requires
+    admit-requires
+    enum-known-admission
+    enum-known-admission-2
+    cast-size
+    sub-write-entries
+    part-write-entries-start
+    part-write-entries-end
+    mul-write-entries
+    write-entries-requires
+    idle-requires
+    mul-after
+    array-set-from-after
+    mul-t21
+    returns
+    same-length
+    returns-2)

@@ -9,11 +9,11 @@ use Rattle.console.proofs.run.run_script.Statement.{statement}
 use Rattle.console.proofs.run.run_script.Tie as tie
 
 abbrev Inv-loop : tie.InvT-loop
-Inv-loop input output first₀ cells₀ count₀ next₀ readers₀ owners₀ xs₀ ys₀ times₀ oids₀ locks₀ current₀ previous₀ pool₀ hits₀ hitxs₀ hitys₀ clock₀ list₀ block₀ line₀ out₀ updaters₀ queries₀ number₀ p₀ first cells count next readers owners xs ys times oids locks current previous pool hits hitxs hitys clock list block line out updaters queries number p =
-    Sizes first cells count next readers owners xs ys times oids locks current previous pool hits hitxs hitys list block line out × (p .filled ≤ 4096) × (p .waiting ≤ 16384)
+Inv-loop input output words₀ times₀ list₀ block₀ line₀ out₀ updaters₀ queries₀ number₀ p₀ words times list block line out updaters queries number p =
+    Sizes words times list block line out × (p .filled ≤ 4096) × (p .waiting ≤ 16384)
 
 abbrev μ-loop : tie.MeasureT-loop
-μ-loop input output first₀ cells₀ count₀ next₀ readers₀ owners₀ xs₀ ys₀ times₀ oids₀ locks₀ current₀ previous₀ pool₀ hits₀ hitxs₀ hitys₀ clock₀ list₀ block₀ line₀ out₀ updaters₀ queries₀ number₀ p₀ first cells count next readers owners xs ys times oids locks current previous pool hits hitxs hitys clock list block line out updaters queries number p =
+μ-loop input output words₀ times₀ list₀ block₀ line₀ out₀ updaters₀ queries₀ number₀ p₀ words times list block line out updaters queries number p =
     18446744073709551615 - number
 
 idle-updaters-requires : tie.Need-idle-updaters-requires Inv-loop μ-loop
@@ -28,51 +28,6 @@ slice-aggregate-reset c = refl
 slice-aggregate-reset-2 : tie.Need-slice-aggregate-reset-2 Inv-loop μ-loop
 slice-aggregate-reset-2 c = refl
 
-slice-aggregate-reset-3 : tie.Need-slice-aggregate-reset-3 Inv-loop μ-loop
-slice-aggregate-reset-3 c = refl
-
-slice-aggregate-reset-4 : tie.Need-slice-aggregate-reset-4 Inv-loop μ-loop
-slice-aggregate-reset-4 c = refl
-
-slice-aggregate-reset-5 : tie.Need-slice-aggregate-reset-5 Inv-loop μ-loop
-slice-aggregate-reset-5 c = refl
-
-slice-aggregate-reset-6 : tie.Need-slice-aggregate-reset-6 Inv-loop μ-loop
-slice-aggregate-reset-6 c = refl
-
-slice-aggregate-reset-7 : tie.Need-slice-aggregate-reset-7 Inv-loop μ-loop
-slice-aggregate-reset-7 c = refl
-
-slice-aggregate-reset-8 : tie.Need-slice-aggregate-reset-8 Inv-loop μ-loop
-slice-aggregate-reset-8 c = refl
-
-slice-aggregate-reset-9 : tie.Need-slice-aggregate-reset-9 Inv-loop μ-loop
-slice-aggregate-reset-9 c = refl
-
-slice-aggregate-reset-10 : tie.Need-slice-aggregate-reset-10 Inv-loop μ-loop
-slice-aggregate-reset-10 c = refl
-
-slice-aggregate-reset-11 : tie.Need-slice-aggregate-reset-11 Inv-loop μ-loop
-slice-aggregate-reset-11 c = refl
-
-slice-aggregate-reset-12 : tie.Need-slice-aggregate-reset-12 Inv-loop μ-loop
-slice-aggregate-reset-12 c = refl
-
-slice-aggregate-reset-13 : tie.Need-slice-aggregate-reset-13 Inv-loop μ-loop
-slice-aggregate-reset-13 c = refl
-
-slice-aggregate-reset-14 : tie.Need-slice-aggregate-reset-14 Inv-loop μ-loop
-slice-aggregate-reset-14 c = refl
-
-slice-aggregate-reset-15 : tie.Need-slice-aggregate-reset-15 Inv-loop μ-loop
-slice-aggregate-reset-15 c = refl
-
-slice-aggregate-reset-16 : tie.Need-slice-aggregate-reset-16 Inv-loop μ-loop
-slice-aggregate-reset-16 c = refl
-
-slice-aggregate-reset-17 : tie.Need-slice-aggregate-reset-17 Inv-loop μ-loop
-slice-aggregate-reset-17 c = refl
-
 reset-requires : tie.Need-reset-requires Inv-loop μ-loop
 reset-requires c κs = tt
 
@@ -80,33 +35,21 @@ no-progress-requires : tie.Need-no-progress-requires Inv-loop μ-loop
 no-progress-requires c κs = tt
 
 loop-holds : tie.Need-loop-holds Inv-loop μ-loop
-loop-holds c = (
-  record {
-    first = sym (c .before .before .before .before .before .before .before .before .before .before .before .before .before .before .before .before .before .before .before .first2 .given);
-    cells = sym (c .before .before .before .before .before .before .before .before .before .before .before .before .before .before .before .before .before .before .cells2 .given);
-    count = sym (c .before .before .before .before .before .before .before .before .before .before .before .before .before .before .before .before .before .count2 .given);
-    next = sym (c .before .before .before .before .before .before .before .before .before .before .before .before .before .before .before .before .next2 .given);
-    readers = sym (c .before .before .before .before .before .before .before .before .before .before .before .before .before .before .before .readers2 .given);
-    owners = sym (c .before .before .before .before .before .before .before .before .before .before .before .before .before .before .owners2 .given);
-    xs = sym (c .before .before .before .before .before .before .before .before .before .before .before .before .before .xs2 .given);
-    ys = sym (c .before .before .before .before .before .before .before .before .before .before .before .before .ys2 .given);
-    times = sym (c .before .before .before .before .before .before .before .before .before .before .before .times2 .given);
-    oids = sym (c .before .before .before .before .before .before .before .before .before .before .oids2 .given);
-    locks = sym (c .before .before .before .before .before .before .before .before .before .locks2 .given);
-    current = sym (c .before .before .before .before .before .before .before .before .current2 .given);
-    previous = sym (c .before .before .before .before .before .before .before .previous2 .given);
-    pool = sym (c .before .before .before .before .before .before .pool2 .given);
-    hits = sym (c .before .before .before .before .before .hits2 .given);
-    hitxs = sym (c .before .before .before .before .hitxs2 .given);
-    hitys = sym (c .before .before .before .hitys2 .given);
-    list = refl;
-    block = refl;
-    line = refl;
-    out = refl;
-  },
-  zero-below (c .no-progress .ensures .0),
-  zero-below (c .no-progress .ensures .2),
-)
+loop-holds c =
+    let words2 = c .before .before .before .before .words2 in
+    let times2 = c .before .before .before .times2 in (
+      record {
+        words = sym (words2 .given);
+        times = sym (times2 .given);
+        list = refl;
+        block = refl;
+        line = refl;
+        out =
+            refl;
+      },
+      zero-below (c .no-progress .ensures .0),
+      zero-below (c .no-progress .ensures .2),
+    )
 
 slice-aggregate-next-line : tie.Need-slice-aggregate-next-line Inv-loop μ-loop
 slice-aggregate-next-line c = c .before .before .loop .inv .0 .block
@@ -118,108 +61,81 @@ slice-aggregate-next-line-3 : tie.Need-slice-aggregate-next-line-3 Inv-loop μ-l
 slice-aggregate-next-line-3 c = c .before .before .before .before .loop .inv .0 .out
 
 next-line-requires : tie.Need-next-line-requires Inv-loop μ-loop
-next-line-requires c κs = next-asked (c .before .before .before .before .loop .inv .0 .block) (c .before .before .before .before .loop .inv .0 .line) (c .before .before .before .before .loop .inv .0 .out) (c .before .before .before .before .loop .inv .1) (c .before .before .before .before .loop .inv .2)
+next-line-requires c κs =
+    let loop = c .before .before .before .before .loop in
+    next-asked (loop .inv .0 .block) (loop .inv .0 .line) (loop .inv .0 .out) (loop .inv .1) (loop .inv .2)
 
 add-number : tie.Need-add-number Inv-loop μ-loop
-add-number c = next-fits (c .before .before .before .before .before .before .before .before .before .loop .number) (c .before .before .before .before .before .before .before .before .loop-test .taken)
+add-number c =
+    let loop = c .before .before .before .before .before .before .before .before .before .loop in
+    let loop-test = c .before .before .before .before .before .before .before .before .loop-test in
+    next-fits (loop .number) (loop-test .taken)
 
 array-share-prefix-line : tie.Need-array-share-prefix-line Inv-loop μ-loop
-array-share-prefix-line c = still (c .before .before .before .before .next-line .ensures .1) (sym (c .before .before .line2 .given))
+array-share-prefix-line c =
+    let next-line = c .before .before .before .before .next-line in
+    still (next-line .ensures .1) (sym (c .before .before .line2 .given))
 
 slice-aggregate-answer-line : tie.Need-slice-aggregate-answer-line Inv-loop μ-loop
-slice-aggregate-answer-line c = sym (length-take-le _ _ (still (c .before .before .before .before .before .next-line .ensures .1) (sym (c .before .before .before .line2 .given))))
+slice-aggregate-answer-line c =
+    let next-line = c .before .before .before .before .before .next-line in
+    let line2 = c .before .before .before .line2 in
+    sym (length-take-le _ _ (still (next-line .ensures .1) (sym (line2 .given))))
 
 slice-aggregate-answer-line-2 : tie.Need-slice-aggregate-answer-line-2 Inv-loop μ-loop
-slice-aggregate-answer-line-2 c = c .before .before .before .before .before .before .before .before .before .before .before .loop .inv .0 .out
+slice-aggregate-answer-line-2 c =
+    let loop = c .before .before .before .before .before .before .before .before .before .before .before .loop in
+    loop .inv .0 .out
 
 slice-aggregate-answer-line-3 : tie.Need-slice-aggregate-answer-line-3 Inv-loop μ-loop
-slice-aggregate-answer-line-3 c = c .before .before .before .before .before .before .before .before .before .before .before .before .loop .inv .0 .list
+slice-aggregate-answer-line-3 c =
+    let loop = c .before .before .before .before .before .before .before .before .before .before .before .before .loop in
+    loop .inv .0 .list
 
 slice-aggregate-answer-line-4 : tie.Need-slice-aggregate-answer-line-4 Inv-loop μ-loop
-slice-aggregate-answer-line-4 c = c .before .before .before .before .before .before .before .before .before .before .before .before .before .loop .inv .0 .first
+slice-aggregate-answer-line-4 c =
+    let loop = c .before .before .before .before .before .before .before .before .before .before .before .before .before .loop in
+    loop .inv .0 .words
 
 slice-aggregate-answer-line-5 : tie.Need-slice-aggregate-answer-line-5 Inv-loop μ-loop
-slice-aggregate-answer-line-5 c = c .before .before .before .before .before .before .before .before .before .before .before .before .before .before .loop .inv .0 .cells
-
-slice-aggregate-answer-line-6 : tie.Need-slice-aggregate-answer-line-6 Inv-loop μ-loop
-slice-aggregate-answer-line-6 c = c .before .before .before .before .before .before .before .before .before .before .before .before .before .before .before .loop .inv .0 .count
-
-slice-aggregate-answer-line-7 : tie.Need-slice-aggregate-answer-line-7 Inv-loop μ-loop
-slice-aggregate-answer-line-7 c = c .before .before .before .before .before .before .before .before .before .before .before .before .before .before .before .before .loop .inv .0 .next
-
-slice-aggregate-answer-line-8 : tie.Need-slice-aggregate-answer-line-8 Inv-loop μ-loop
-slice-aggregate-answer-line-8 c = c .before .before .before .before .before .before .before .before .before .before .before .before .before .before .before .before .before .loop .inv .0 .readers
-
-slice-aggregate-answer-line-9 : tie.Need-slice-aggregate-answer-line-9 Inv-loop μ-loop
-slice-aggregate-answer-line-9 c = c .before .before .before .before .before .before .before .before .before .before .before .before .before .before .before .before .before .before .loop .inv .0 .owners
-
-slice-aggregate-answer-line-10 : tie.Need-slice-aggregate-answer-line-10 Inv-loop μ-loop
-slice-aggregate-answer-line-10 c = c .before .before .before .before .before .before .before .before .before .before .before .before .before .before .before .before .before .before .before .loop .inv .0 .xs
-
-slice-aggregate-answer-line-11 : tie.Need-slice-aggregate-answer-line-11 Inv-loop μ-loop
-slice-aggregate-answer-line-11 c = c .before .before .before .before .before .before .before .before .before .before .before .before .before .before .before .before .before .before .before .before .loop .inv .0 .ys
-
-slice-aggregate-answer-line-12 : tie.Need-slice-aggregate-answer-line-12 Inv-loop μ-loop
-slice-aggregate-answer-line-12 c = c .before .before .before .before .before .before .before .before .before .before .before .before .before .before .before .before .before .before .before .before .before .loop .inv .0 .times
-
-slice-aggregate-answer-line-13 : tie.Need-slice-aggregate-answer-line-13 Inv-loop μ-loop
-slice-aggregate-answer-line-13 c = c .before .before .before .before .before .before .before .before .before .before .before .before .before .before .before .before .before .before .before .before .before .before .loop .inv .0 .oids
-
-slice-aggregate-answer-line-14 : tie.Need-slice-aggregate-answer-line-14 Inv-loop μ-loop
-slice-aggregate-answer-line-14 c = c .before .before .before .before .before .before .before .before .before .before .before .before .before .before .before .before .before .before .before .before .before .before .before .loop .inv .0 .locks
-
-slice-aggregate-answer-line-15 : tie.Need-slice-aggregate-answer-line-15 Inv-loop μ-loop
-slice-aggregate-answer-line-15 c = c .before .before .before .before .before .before .before .before .before .before .before .before .before .before .before .before .before .before .before .before .before .before .before .before .loop .inv .0 .current
-
-slice-aggregate-answer-line-16 : tie.Need-slice-aggregate-answer-line-16 Inv-loop μ-loop
-slice-aggregate-answer-line-16 c = c .before .before .before .before .before .before .before .before .before .before .before .before .before .before .before .before .before .before .before .before .before .before .before .before .before .loop .inv .0 .previous
-
-slice-aggregate-answer-line-17 : tie.Need-slice-aggregate-answer-line-17 Inv-loop μ-loop
-slice-aggregate-answer-line-17 c = c .before .before .before .before .before .before .before .before .before .before .before .before .before .before .before .before .before .before .before .before .before .before .before .before .before .before .loop .inv .0 .pool
-
-slice-aggregate-answer-line-18 : tie.Need-slice-aggregate-answer-line-18 Inv-loop μ-loop
-slice-aggregate-answer-line-18 c = c .before .before .before .before .before .before .before .before .before .before .before .before .before .before .before .before .before .before .before .before .before .before .before .before .before .before .before .loop .inv .0 .hits
-
-slice-aggregate-answer-line-19 : tie.Need-slice-aggregate-answer-line-19 Inv-loop μ-loop
-slice-aggregate-answer-line-19 c = c .before .before .before .before .before .before .before .before .before .before .before .before .before .before .before .before .before .before .before .before .before .before .before .before .before .before .before .before .loop .inv .0 .hitxs
-
-slice-aggregate-answer-line-20 : tie.Need-slice-aggregate-answer-line-20 Inv-loop μ-loop
-slice-aggregate-answer-line-20 c = c .before .before .before .before .before .before .before .before .before .before .before .before .before .before .before .before .before .before .before .before .before .before .before .before .before .before .before .before .before .loop .inv .0 .hitys
+slice-aggregate-answer-line-5 c =
+    let loop = c .before .before .before .before .before .before .before .before .before .before .before .before .before .before .loop in
+    loop .inv .0 .times
 
 answer-line-requires : tie.Need-answer-line-requires Inv-loop μ-loop
-answer-line-requires c κs = answer-asked (c .before .before .before .before .before .before .before .before .before .before .before .before .before .before .before .before .before .before .before .before .before .before .before .before .before .next-line .ensures .2) (c .before .before .before .before .before .before .before .before .before .before .before .before .before .before .before .before .before .before .before .before .before .before .before .before .before .before .before .before .before .before .loop .inv .0 .out) (c .before .before .before .before .before .before .before .before .before .before .before .before .before .before .before .before .before .before .before .before .before .before .before .before .before .before .before .before .before .before .loop .inv .0 .list)
+answer-line-requires c κs =
+    let loop = c .before .before .before .before .before .before .before .before .before .before .before .before .before .before .loop in
+    let next-line = c .before .before .before .before .before .before .before .before .before .next-line in
+    answer-asked (next-line .ensures .2) (loop .inv .0 .out) (loop .inv .0 .list)
 
 loop-less : tie.Need-loop-less Inv-loop μ-loop
-loop-less c = count-down (c .before .before .before .before .before .before .before .before .before .before .before .before .before .before .before .before .before .before .before .before .before .before .before .before .before .before .before .before .before .before .before .before .before .before .before .before .before .before .before .before .before .before .before .before .before .before .before .before .before .before .before .before .loop .number) (c .before .before .before .before .before .before .before .before .before .before .before .before .before .before .before .before .before .before .before .before .before .before .before .before .before .before .before .before .before .before .before .before .before .before .before .before .before .before .before .before .before .before .before .before .before .before .before .before .before .before .before .loop-test .taken)
+loop-less c =
+    let loop = c .before .before .before .before .before .before .before .before .before .before .before .before .before .before .before .before .before .before .before .before .before .loop in
+    let loop-test = c .before .before .before .before .before .before .before .before .before .before .before .before .before .before .before .before .before .before .before .before .loop-test in
+    count-down (loop .number) (loop-test .taken)
 
 loop-again : tie.Need-loop-again Inv-loop μ-loop
-loop-again c = (
-  record {
-    first = sym (c .before .before .before .before .before .before .before .before .before .before .before .before .before .before .before .before .before .before .first4 .given);
-    cells = sym (c .before .before .before .before .before .before .before .before .before .before .before .before .before .before .before .before .before .cells4 .given);
-    count = sym (c .before .before .before .before .before .before .before .before .before .before .before .before .before .before .before .before .count4 .given);
-    next = sym (c .before .before .before .before .before .before .before .before .before .before .before .before .before .before .before .next4 .given);
-    readers = sym (c .before .before .before .before .before .before .before .before .before .before .before .before .before .before .readers4 .given);
-    owners = sym (c .before .before .before .before .before .before .before .before .before .before .before .before .before .owners4 .given);
-    xs = sym (c .before .before .before .before .before .before .before .before .before .before .before .before .xs4 .given);
-    ys = sym (c .before .before .before .before .before .before .before .before .before .before .before .ys4 .given);
-    times = sym (c .before .before .before .before .before .before .before .before .before .before .times4 .given);
-    oids = sym (c .before .before .before .before .before .before .before .before .before .oids4 .given);
-    locks = sym (c .before .before .before .before .before .before .before .before .locks4 .given);
-    current = sym (c .before .before .before .before .before .before .before .current4 .given);
-    previous = sym (c .before .before .before .before .before .before .previous4 .given);
-    pool = sym (c .before .before .before .before .before .pool4 .given);
-    hits = sym (c .before .before .before .before .hits4 .given);
-    hitxs = sym (c .before .before .before .hitxs4 .given);
-    hitys = sym (c .before .before .hitys4 .given);
-    list = sym (c .before .before .before .before .before .before .before .before .before .before .before .before .before .before .before .before .before .before .before .list2 .given);
-    block = sym (c .before .before .before .before .before .before .before .before .before .before .before .before .before .before .before .before .before .before .before .before .before .before .before .before .before .before .before .before .before .before .before .before .before .before .before .before .before .before .before .before .before .before .before .before .before .before .block2 .given);
-    line = sym (c .before .before .before .before .before .before .before .before .before .before .before .before .before .before .before .before .before .before .before .before .before .before .before .before .before .before .before .before .before .before .before .before .before .before .before .before .before .before .before .before .before .before .before .before .before .line2 .given);
-    out = sym (c .before .before .before .before .before .before .before .before .before .before .before .before .before .before .before .before .before .before .before .before .out3 .given);
-  },
-  still (c .before .before .before .before .before .before .before .before .before .before .before .before .before .before .before .before .before .before .before .before .before .before .before .before .before .before .before .before .before .before .before .before .before .before .before .before .before .before .before .before .before .before .before .before .before .before .before .next-line .ensures .0) (c .before .before .before .before .before .before .before .before .before .before .before .before .before .before .before .before .before .before .before .before .before .before .before .before .before .before .before .before .before .before .before .before .before .before .before .before .before .before .before .before .before .before .before .before .before .before .block2 .given),
-  still (c .before .before .before .before .before .before .before .before .before .before .before .before .before .before .before .before .before .before .before .before .before .answer-line .ensures .fits) (sym (c .before .before .before .before .before .before .before .before .before .before .before .before .before .before .before .before .before .before .before .before .before .before .before .before .before .before .before .before .before .before .before .before .before .before .before .before .before .before .before .before .before .before .before .before .before .before .before .before .before .before .before .before .loop .inv .0 .out)),
-)
+loop-again c =
+    let loop = c .before .before .before .before .before .before .before .before .before .before .before .before .before .before .before .before .before .before .before .before .before .loop in
+    let next-line = c .before .before .before .before .before .before .before .before .before .before .before .before .before .before .before .before .next-line in
+    let block2 = c .before .before .before .before .before .before .before .before .before .before .before .before .before .before .before .block2 in
+    let line2 = c .before .before .before .before .before .before .before .before .before .before .before .before .before .before .line2 in
+    let answer-line = c .before .before .before .before .before .before .answer-line in
+    let out3 = c .before .before .before .before .before .out3 in
+    let list2 = c .before .before .before .before .list2 in
+    let words4 = c .before .before .before .words4 in (
+      record {
+        words = sym (words4 .given);
+        times = sym (c .before .before .times4 .given);
+        list = sym (list2 .given);
+        block = sym (block2 .given);
+        line = sym (line2 .given);
+        out = sym (out3 .given);
+      },
+      still
+          (next-line .ensures .0) (block2 .given),
+      still (answer-line .ensures .fits) (sym (loop .inv .0 .out)),
+    )
 
 -- what waits where the loop was left: as before its test, or as the last call of next_line left it
 left-waiting : (c : tie.Left-loop Inv-loop μ-loop) → c .loop-test .p .waiting ≤ 16384
@@ -233,7 +149,8 @@ array-share-prefix-out : tie.Need-array-share-prefix-out Inv-loop μ-loop
 array-share-prefix-out c = still (left-waiting c) (c .before .loop .inv .0 .out)
 
 slice-aggregate-write-all : tie.Need-slice-aggregate-write-all Inv-loop μ-loop
-slice-aggregate-write-all c = sym (length-take-le _ _ (still (left-waiting (c .before)) (c .before .before .loop .inv .0 .out)))
+slice-aggregate-write-all c =
+    sym (length-take-le _ _ (still (left-waiting (c .before)) (c .before .before .loop .inv .0 .out)))
 
 write-all-requires : tie.Need-write-all-requires Inv-loop μ-loop
 write-all-requires c κs = tt
@@ -254,21 +171,6 @@ run-script-spec =
     idle-queries-requires
     slice-aggregate-reset
     slice-aggregate-reset-2
-    slice-aggregate-reset-3
-    slice-aggregate-reset-4
-    slice-aggregate-reset-5
-    slice-aggregate-reset-6
-    slice-aggregate-reset-7
-    slice-aggregate-reset-8
-    slice-aggregate-reset-9
-    slice-aggregate-reset-10
-    slice-aggregate-reset-11
-    slice-aggregate-reset-12
-    slice-aggregate-reset-13
-    slice-aggregate-reset-14
-    slice-aggregate-reset-15
-    slice-aggregate-reset-16
-    slice-aggregate-reset-17
     reset-requires
     no-progress-requires
     loop-holds
@@ -283,21 +185,6 @@ run-script-spec =
     slice-aggregate-answer-line-3
     slice-aggregate-answer-line-4
     slice-aggregate-answer-line-5
-    slice-aggregate-answer-line-6
-    slice-aggregate-answer-line-7
-    slice-aggregate-answer-line-8
-    slice-aggregate-answer-line-9
-    slice-aggregate-answer-line-10
-    slice-aggregate-answer-line-11
-    slice-aggregate-answer-line-12
-    slice-aggregate-answer-line-13
-    slice-aggregate-answer-line-14
-    slice-aggregate-answer-line-15
-    slice-aggregate-answer-line-16
-    slice-aggregate-answer-line-17
-    slice-aggregate-answer-line-18
-    slice-aggregate-answer-line-19
-    slice-aggregate-answer-line-20
     answer-line-requires
     loop-less
     loop-again

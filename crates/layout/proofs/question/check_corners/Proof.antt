@@ -18,19 +18,63 @@ on-grid-requires-2 c κs = search needs
 
 returns-2 : tie.Need-returns-2
 unfolding corners cornersOn ordered pick
-returns-2 c = rw (← c .before .before .before .on-grid .ensures, not-false (c .before .before .before .on-grid .result) (c .before .before .if1 .left), ← c .before .on-grid2 .ensures, not-true (c .before .on-grid2 .result) (c .if2 .taken))
+returns-2 c =
+    let on-grid = c .before .before .before .on-grid in
+    rw (
+      ← on-grid .ensures,
+      not-false (on-grid .result) (c .before .before .if1 .left),
+      ← c .before .on-grid2 .ensures,
+      not-true (c .before .on-grid2 .result) (c .if2 .taken),
+    )
 
 returns-3 : tie.Need-returns-3
 unfolding corners cornersOn ordered pick
-returns-3 c = rw (← c .before .before .before .before .before .on-grid .ensures, not-false (c .before .before .before .before .before .on-grid .result) (c .before .before .before .before .if1 .left), ← c .before .before .before .on-grid2 .ensures, not-false (c .before .before .before .on-grid2 .result) (c .before .before .if2 .left), lt-leb _ _ (c .if3 .taken))
+returns-3 c =
+    let on-grid = c .before .before .before .before .before .on-grid in
+    let if1 = c .before .before .before .before .if1 in
+    let on-grid2 = c .before .before .before .on-grid2 in
+    rw (
+      ← on-grid .ensures,
+      not-false (on-grid .result) (if1 .left),
+      ← on-grid2 .ensures,
+      not-false (on-grid2 .result)
+          (c .before .before .if2 .left),
+      lt-leb _ _ (c .if3 .taken),
+    )
 
 returns-4 : tie.Need-returns-4
 unfolding corners cornersOn ordered pick
-returns-4 c = rw (← c .before .before .before .before .before .before .before .on-grid .ensures, not-false (c .before .before .before .before .before .before .before .on-grid .result) (c .before .before .before .before .before .before .if1 .left), ← c .before .before .before .before .before .on-grid2 .ensures, not-false (c .before .before .before .before .before .on-grid2 .result) (c .before .before .before .before .if2 .left), le-leb _ _ (c .before .before .if3 .left), lt-leb _ _ (c .if4 .taken))
+returns-4 c =
+    let on-grid = c .before .before .before .before .before .before .before .on-grid in
+    let if1 = c .before .before .before .before .before .before .if1 in
+    let on-grid2 = c .before .before .before .before .before .on-grid2 in
+    let if2 = c .before .before .before .before .if2 in
+    rw (
+      ← on-grid .ensures,
+      not-false (on-grid .result) (if1 .left),
+      ← on-grid2 .ensures,
+      not-false (on-grid2 .result)
+          (if2 .left),
+      le-leb _ _ (c .before .before .if3 .left),
+      lt-leb _ _ (c .if4 .taken),
+    )
 
 returns-5 : tie.Need-returns-5
 unfolding corners cornersOn ordered pick
-returns-5 c = rw (← c .before .before .before .before .before .before .before .on-grid .ensures, not-false (c .before .before .before .before .before .before .before .on-grid .result) (c .before .before .before .before .before .before .if1 .left), ← c .before .before .before .before .before .on-grid2 .ensures, not-false (c .before .before .before .before .before .on-grid2 .result) (c .before .before .before .before .if2 .left), le-leb _ _ (c .before .before .if3 .left), le-leb _ _ (c .if4 .left))
+returns-5 c =
+    let on-grid = c .before .before .before .before .before .before .before .on-grid in
+    let if1 = c .before .before .before .before .before .before .if1 in
+    let on-grid2 = c .before .before .before .before .before .on-grid2 in
+    let if2 = c .before .before .before .before .if2 in
+    rw (
+      ← on-grid .ensures,
+      not-false (on-grid .result) (if1 .left),
+      ← on-grid2 .ensures,
+      not-false (on-grid2 .result)
+          (if2 .left),
+      le-leb _ _ (c .before .before .if3 .left),
+      le-leb _ _ (c .if4 .left),
+    )
 
 pub check-corners-spec : {M : Type 1} → statement M
 check-corners-spec =

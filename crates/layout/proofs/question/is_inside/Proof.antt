@@ -14,15 +14,35 @@ returns-2 c = rw (le-leb _ _ (c .before .before .if1 .left), lt-leb _ _ (c .if2 
 
 returns-3 : tie.Need-returns-3
 unfolding inside
-returns-3 c = rw (le-leb _ _ (c .before .before .before .before .if1 .left), le-leb _ _ (c .before .before .if2 .left), lt-leb _ _ (c .if3 .taken))
+returns-3 c =
+    let if1 = c .before .before .before .before .if1 in
+    rw (le-leb _ _ (if1 .left), le-leb _ _ (c .before .before .if2 .left), lt-leb _ _ (c .if3 .taken))
 
 returns-4 : tie.Need-returns-4
 unfolding inside
-returns-4 c = rw (le-leb _ _ (c .before .before .before .before .before .before .if1 .left), le-leb _ _ (c .before .before .before .before .if2 .left), le-leb _ _ (c .before .before .if3 .left), lt-leb _ _ (c .if4 .taken))
+returns-4 c =
+    let if1 = c .before .before .before .before .before .before .if1 in
+    let if2 = c .before .before .before .before .if2 in
+    rw (
+      le-leb _ _ (if1 .left),
+      le-leb _ _ (if2 .left),
+      le-leb _ _ (c .before .before .if3 .left),
+      lt-leb _ _
+          (c .if4 .taken),
+    )
 
 returns-5 : tie.Need-returns-5
 unfolding inside
-returns-5 c = rw (le-leb _ _ (c .before .before .before .before .before .before .if1 .left), le-leb _ _ (c .before .before .before .before .if2 .left), le-leb _ _ (c .before .before .if3 .left), le-leb _ _ (c .if4 .left))
+returns-5 c =
+    let if1 = c .before .before .before .before .before .before .if1 in
+    let if2 = c .before .before .before .before .if2 in
+    rw (
+      le-leb _ _ (if1 .left),
+      le-leb _ _ (if2 .left),
+      le-leb _ _ (c .before .before .if3 .left),
+      le-leb _ _
+          (c .if4 .left),
+    )
 
 pub is-inside-spec : {M : Type 1} → statement M
 is-inside-spec = tie.close (tie.spec returns returns-2 returns-3 returns-4 returns-5)

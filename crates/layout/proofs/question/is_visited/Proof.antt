@@ -16,11 +16,15 @@ enum-told c = search needs
 
 returns : tie.Need-returns
 unfolding visited
-returns c = rw (refused-tests (c .before .before .args .q) (c .before .check-corners .result) (c .before .check-corners .ensures) (c .match .keys2))
+returns c =
+    rw (refused-tests (c .before .before .args .q) (c .before .check-corners .result)
+    (c .before .check-corners .ensures) (c .match .keys2))
 
 -- where the corners are accepted, the tests on them hold
 accepted : (c : tie.After-enum-told) → (cornersOn (c .before .before .before .args .q) && ordered (c .before .before .before .args .q)) ≡ true
-accepted c = proper-iff (c .before .before .before .args .q) .0 (rw (c .enum-told .given .1) at (c .before .before .check-corners .ensures))
+accepted c =
+    let args = c .before .before .before .args in
+    proper-iff (args .q) .0 (rw (c .enum-told .given .1) at (c .before .before .check-corners .ensures))
 
 returns-2 : tie.Need-returns-2
 unfolding visited
@@ -28,23 +32,66 @@ returns-2 c = rw (accepted (c .before), le-ltb _ _ (c .if1 .taken))
 
 returns-3 : tie.Need-returns-3
 unfolding visited
-returns-3 c = rw (accepted (c .before .before .before), lt-ltb _ _ (c .before .before .if1 .left), lt-leb _ _ (c .if2 .taken))
+returns-3 c =
+    rw (accepted (c .before .before .before), lt-ltb _ _ (c .before .before .if1 .left), lt-leb _ _ (c .if2 .taken))
 
 returns-4 : tie.Need-returns-4
 unfolding visited
-returns-4 c = rw (accepted (c .before .before .before .before .before), lt-ltb _ _ (c .before .before .before .before .if1 .left), le-leb _ _ (c .before .before .if2 .left), lt-leb _ _ (c .if3 .taken))
+returns-4 c =
+    let if1 = c .before .before .before .before .if1 in
+    rw (
+      accepted (c .before .before .before .before .before),
+      lt-ltb _ _ (if1 .left),
+      le-leb _ _
+          (c .before .before .if2 .left),
+      lt-leb _ _ (c .if3 .taken),
+    )
 
 returns-5 : tie.Need-returns-5
 unfolding visited
-returns-5 c = rw (accepted (c .before .before .before .before .before .before .before), lt-ltb _ _ (c .before .before .before .before .before .before .if1 .left), le-leb _ _ (c .before .before .before .before .if2 .left), le-leb _ _ (c .before .before .if3 .left), lt-leb _ _ (c .if4 .taken))
+returns-5 c =
+    let if1 = c .before .before .before .before .before .before .if1 in
+    let if2 = c .before .before .before .before .if2 in
+    rw (
+      accepted (c .before .before .before .before .before .before .before),
+      lt-ltb _ _ (if1 .left),
+      le-leb _ _
+          (if2 .left),
+      le-leb _ _ (c .before .before .if3 .left),
+      lt-leb _ _ (c .if4 .taken),
+    )
 
 returns-6 : tie.Need-returns-6
 unfolding visited
-returns-6 c = rw (accepted (c .before .before .before .before .before .before .before .before .before), lt-ltb _ _ (c .before .before .before .before .before .before .before .before .if1 .left), le-leb _ _ (c .before .before .before .before .before .before .if2 .left), le-leb _ _ (c .before .before .before .before .if3 .left), le-leb _ _ (c .before .before .if4 .left), lt-leb _ _ (c .if5 .taken))
+returns-6 c =
+    let if1 = c .before .before .before .before .before .before .before .before .if1 in
+    let if2 = c .before .before .before .before .before .before .if2 in
+    let if3 = c .before .before .before .before .if3 in
+    rw (
+      accepted (c .before .before .before .before .before .before .before .before .before),
+      lt-ltb _ _ (if1 .left),
+      le-leb _ _ (if2 .left),
+      le-leb _ _ (if3 .left),
+      le-leb _ _ (c .before .before .if4 .left),
+      lt-leb _ _
+          (c .if5 .taken),
+    )
 
 returns-7 : tie.Need-returns-7
 unfolding visited
-returns-7 c = rw (accepted (c .before .before .before .before .before .before .before .before .before), lt-ltb _ _ (c .before .before .before .before .before .before .before .before .if1 .left), le-leb _ _ (c .before .before .before .before .before .before .if2 .left), le-leb _ _ (c .before .before .before .before .if3 .left), le-leb _ _ (c .before .before .if4 .left), le-leb _ _ (c .if5 .left))
+returns-7 c =
+    let if1 = c .before .before .before .before .before .before .before .before .if1 in
+    let if2 = c .before .before .before .before .before .before .if2 in
+    let if3 = c .before .before .before .before .if3 in
+    rw (
+      accepted (c .before .before .before .before .before .before .before .before .before),
+      lt-ltb _ _ (if1 .left),
+      le-leb _ _ (if2 .left),
+      le-leb _ _ (if3 .left),
+      le-leb _ _ (c .before .before .if4 .left),
+      le-leb _ _
+          (c .if5 .left),
+    )
 
 pub is-visited-spec : {M : Type 1} → statement M
 is-visited-spec =

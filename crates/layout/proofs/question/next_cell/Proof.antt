@@ -48,14 +48,30 @@ add-t11 c = omega (arith, small (c .before .before .before .before .before))
 
 returns-3 : tie.Need-returns-3
 unfolding next need pick tells
-returns-3 c = rw (seen (c .before .before .before .before .before), ← c .before .before .before .before .last-cell .ensures, ne-eqb _ _ (c .before .before .before .if2 .left), eq-eqb _ _ (c .before .if3 .taken))
+returns-3 c =
+    let last-cell = c .before .before .before .before .last-cell in
+    let if2 = c .before .before .before .if2 in
+    rw (
+      seen (c .before .before .before .before .before),
+      ← last-cell .ensures,
+      ne-eqb _ _ (if2 .left),
+      eq-eqb _ _
+          (c .before .if3 .taken),
+    )
 
 add-t5 : tie.Need-add-t5
 add-t5 c = omega (arith, small (c .before .before .before .before))
 
 returns-4 : tie.Need-returns-4
 unfolding next need pick tells
-returns-4 c = rw (seen (c .before .before .before .before), ← c .before .before .before .last-cell .ensures, ne-eqb _ _ (c .before .before .if2 .left), ne-eqb _ _ (c .if3 .left))
+returns-4 c =
+    let last-cell = c .before .before .before .last-cell in
+    rw (
+      seen (c .before .before .before .before),
+      ← last-cell .ensures,
+      ne-eqb _ _ (c .before .before .if2 .left),
+      ne-eqb _ _ (c .if3 .left),
+    )
 
 pub next-cell-spec : {M : Type 1} → statement M
 next-cell-spec =

@@ -1,10 +1,7 @@
--- scan_step does what `scanOn` says: each arm as its step's function does, seen on all tables.
-use mathlib.Core.List.{List}
-use Prim.Native.Nat.{ℕ}
+-- scan_step does what `scanOn` says: each arm as its step's function does.
 use denote.Ref.{now}
-use Rattle.index.specs.Index.{Index}
 use Rattle.tables.specs.Tables.{Tables}
-use Rattle.queries.specs.Scans.{scanTables}
+use Rattle.tables.specs.Grid.{grid}
 use Rattle.queries.proofs.Steps.{scan-enter, scan-leave, scan-read, scan-idle, scan-over}
 use borrow.Author.Needs.{needs}
 use Rattle.queries.proofs.scanning.scan_step.Statement.{statement}
@@ -13,9 +10,9 @@ use Rattle.query.proofs.entering.enter_step.Reads as enter-step-reads
 use Rattle.query.proofs.leaving.leave_step.Reads as leave-step-reads
 use Rattle.query.proofs.reading.read_step.Reads as read-step-reads
 
--- the tables that were lent, beside an index, a pool and a clock
-abbrev whole : Index → List ℕ → ℕ → tie.Start → Tables
-whole d p k s = scanTables d p k (now (s .args .first)) (now (s .args .cells)) (now (s .args .count)) (now (s .args .next)) (now (s .args .readers)) (now (s .args .owners)) (now (s .args .xs)) (now (s .args .ys)) (now (s .args .times)) (now (s .args .hits)) (now (s .args .hitxs)) (now (s .args .hitys))
+-- the tables that were lent
+abbrev whole : tie.Start → Tables
+whole s = grid (now (s .args .words)) (now (s .args .times))
 
 enum-told : tie.Need-enum-told
 enum-told c = search needs
@@ -36,7 +33,13 @@ same-length : tie.Need-same-length
 same-length c = search needs
 
 returns : tie.Need-returns
-returns c d p k = scan-leave (whole d p k (c .before .before .before .before .before .before .before .before .before .before .before .before .before .before .before .before .before .before .before .before)) _ (c .before .before .before .before .before .before .before .before .before .before .before .before .before .before .before .before .before .before .before .before .args .q) (c .before .before .leave-step .result) _ _ (c .before .before .before .before .before .before .before .s2 .given .1) _ (c .before .before .before .before .if1 .taken) (c .before .before .leave-step .ensures)
+returns c =
+    let s = c .before .before .before .before .before .before .before .before .before .before in
+    let s2 = c .before .before .before .before .before .before .before .s2 in
+    let if1 = c .before .before .before .before .if1 in
+    scan-leave (whole (c .before .before .before .before .before .before .before .before .before .before)) _ _
+    (s .args .q) _ _ _ (s2 .given .1) (if1 .taken) (c .before .before .leave-step .ensures
+    (now (s .args .times)))
 
 read-step-requires : tie.Need-read-step-requires
 read-step-requires c κs = search needs
@@ -45,28 +48,35 @@ enum-told-2 : tie.Need-enum-told-2
 enum-told-2 c = search needs
 
 returns-2 : tie.Need-returns-2
-returns-2 c d p k = scan-idle (whole d p k (c .before .before .before .before .before .before .before .before .before .before .before .before .before)) _ (c .before .before .before .before .before .before .before .before .before .before .before .before .before .args .q) (c .enum-told .given .1)
+returns-2 c =
+    let args = c .before .before .before .args in
+    scan-idle (whole (c .before .before .before)) _ (args .q) (c .enum-told .given .1)
 
 same-length-2 : tie.Need-same-length-2
 same-length-2 c = search needs
 
 returns-3 : tie.Need-returns-3
-returns-3 c d p k = scan-enter (whole d p k (c .before .before .before .before .before .before .before .before .before .before .before .before .before .before .before .before .before .before)) _ (c .before .before .before .before .before .before .before .before .before .before .before .before .before .before .before .before .before .before .args .q) (c .before .before .enter-step .result) _ _ (c .before .before .before .before .before .s .given .1) (c .before .before .enter-step .ensures)
+returns-3 c =
+    let s = c .before .before .before .before .before .before .before .before in
+    let found = c .before .before .before .before .before .s in
+    scan-enter (whole (c .before .before .before .before .before .before .before .before)) _ _ (s .args .q) _ _
+    (found .given .1) (c .before .before .enter-step .ensures (now (s .args .times)))
 
 same-length-3 : tie.Need-same-length-3
 same-length-3 c = search needs
 
-same-length-4 : tie.Need-same-length-4
-same-length-4 c = search needs
-
-same-length-5 : tie.Need-same-length-5
-same-length-5 c = search needs
-
 returns-4 : tie.Need-returns-4
-returns-4 c d p k = scan-read (whole d p k (c .before .before .before .before .before .before .before .before .before .before .before .before .before .before .before .before .before .before .before .before .before .before .before .before .before .before)) _ (c .before .before .before .before .before .before .before .before .before .before .before .before .before .before .before .before .before .before .before .before .before .before .before .before .before .before .args .q) (c .before .before .before .before .before .before .read-step .result) _ _ (c .before .before .before .before .before .before .before .before .before .before .before .before .before .s2 .given .1) _ (c .before .before .before .before .before .before .before .before .before .before .if1 .left) (c .before .before .before .before .before .before .read-step .ensures)
+returns-4 c =
+    let args = c .before .before .before .before .before .before .before .before .before .before .args in
+    let s2 = c .before .before .before .before .before .before .before .s2 in
+    let if1 = c .before .before .before .before .if1 in
+    scan-read (whole (c .before .before .before .before .before .before .before .before .before .before)) _ _ (args .q)
+    _ _ _ (s2 .given .1) (if1 .left) (c .before .before .read-step .ensures)
 
 returns-5 : tie.Need-returns-5
-returns-5 c d p k = scan-over (whole d p k (c .before .before .before .before .before .before .before .before .before .before .before .before .before)) _ (c .before .before .before .before .before .before .before .before .before .before .before .before .before .args .q) (c .enum-told2 .given .1)
+returns-5 c =
+    let args = c .before .before .before .args in
+    scan-over (whole (c .before .before .before)) _ (args .q) (c .enum-told2 .given .1)
 
 pub scan-step-spec : {M : Type 1} → statement M
 scan-step-spec =
@@ -85,7 +95,5 @@ scan-step-spec =
     same-length-2
     returns-3
     same-length-3
-    same-length-4
-    same-length-5
     returns-4
     returns-5)

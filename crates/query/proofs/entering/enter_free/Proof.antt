@@ -1,11 +1,17 @@
 -- enter_free does what `enterFree` says: by the tests that led to each return, then as after_cell or add_reader answers.
-use mathlib.Core.Path.{ap, _∙_}
+use mathlib.Core.Path.{refl, ap, _∙_}
+use denote.Ref.{now}
 use borrow.Author.Tests.{lt-ltb, le-ltb, eq-eqb, ne-eqb}
 use Rattle.base.specs.Outcome.{need, pick, andThen}
 use Rattle.base.specs.Step.{turnTells, turnLeaves, said-corrupt, said-done}
+use Rattle.words.specs.Map.{FIRST}
+use Rattle.words.specs.Words.{countIn, readersIn}
 use Rattle.readers.specs.Reader.{addReader}
 use Rattle.readers.proofs.Answers.{stood-corrupt, stood-in}
 use Rattle.query.specs.Scan.{counted, afterCell, onwardSays, enterFree}
+use Rattle.query.proofs.Landing.{stays, reads-there}
+use Rattle.tables.specs.Grid.{grid}
+use Rattle.words.proofs.Parts.{part-at}
 use borrow.Author.Needs.{needs}
 use Rattle.query.proofs.entering.enter_free.Statement.{statement}
 use Rattle.query.proofs.entering.enter_free.Tie as tie
@@ -14,18 +20,23 @@ use Rattle.query.proofs.moving.one_more.Reads as one-more-reads
 use Rattle.readers.proofs.add_reader.Reads as add-reader-reads
 
 returns : tie.Need-returns
-unfolding enterFree counted need pick andThen turnTells turnLeaves
-returns c = rw (le-ltb _ _ (c .if1 .taken))
+unfolding enterFree counted need pick andThen turnTells turnLeaves grid
+returns c ts = stays (now (c .before .before .before .args .words)) ts _ _ _ refl (rw (le-ltb _ _ (c .if1 .taken)))
 
 returns-2 : tie.Need-returns-2
-unfolding enterFree counted need pick andThen turnTells turnLeaves
-returns-2 c = rw (lt-ltb _ _ (c .before .if1 .left), le-ltb _ _ (c .if2 .taken))
+unfolding enterFree counted need pick andThen turnTells turnLeaves grid
+returns-2 c ts =
+    let args = c .before .before .before .before .args in
+    stays (now (args .words)) ts _ _ _ refl (rw (lt-ltb _ _ (c .before .if1 .left), le-ltb _ _ (c .if2 .taken)))
+
+add-bucket : tie.Need-add-bucket
+add-bucket c = search needs
 
 mul-bucket : tie.Need-mul-bucket
 mul-bucket c = search needs
 
-shared-slice-read-bucket : tie.Need-shared-slice-read-bucket
-shared-slice-read-bucket c = search needs
+slice-read-bucket : tie.Need-slice-read-bucket
+slice-read-bucket c = search needs
 
 after-cell-requires : tie.Need-after-cell-requires
 after-cell-requires c κs = search needs
@@ -37,15 +48,43 @@ enum-told : tie.Need-enum-told
 enum-told c = search needs
 
 returns-3 : tie.Need-returns-3
-unfolding enterFree counted need pick andThen turnTells turnLeaves
-returns-3 c = rw (lt-ltb _ _ (c .before .before .before .before .before .before .if1 .left), lt-ltb _ _ (c .before .before .before .before .before .if2 .left), eq-eqb _ _ (c .before .before .before .if3 .taken), said-corrupt (afterCell _ _) (c .before .before .after-cell .ensures ∙ ap onwardSays (c .enum-told .given .1)))
+unfolding enterFree counted need pick andThen turnTells turnLeaves grid
+returns-3 c ts =
+    let s = c .before .before .before .before .before .before .before .before .before in
+    let if1 = c .before .before .before .before .before .before .if1 in
+    let if2 = c .before .before .before .before .before .if2 in
+    let if3 = c .before .before .before .if3 in
+    stays (now (s .args .words)) ts _ _ _ refl (rw (
+      lt-ltb _ _ (if1 .left),
+      lt-ltb _ _ (if2 .left),
+      part-at
+          (now (s .args .words)) FIRST 256 (s .args .cell) 0 (if2 .left),
+      eq-eqb _ _ (if3 .taken),
+      said-corrupt
+          (afterCell _ _) (c .before .before .after-cell .ensures ∙ ap onwardSays (c .enum-told .given .1)),
+    ))
 
 one-more-requires : tie.Need-one-more-requires
 one-more-requires c κs = search needs
 
 returns-4 : tie.Need-returns-4
-unfolding enterFree counted need pick andThen turnTells turnLeaves
-returns-4 c = rw (lt-ltb _ _ (c .before .before .before .before .before .before .before .before .if1 .left), lt-ltb _ _ (c .before .before .before .before .before .before .before .if2 .left), eq-eqb _ _ (c .before .before .before .before .before .if3 .taken), said-done (afterCell _ _) (c .before .before .before .before .after-cell .ensures ∙ ap onwardSays (c .before .before .onward .given .1)), c .one-more .ensures)
+unfolding enterFree counted need pick andThen turnTells turnLeaves grid
+returns-4 c ts =
+    let s = c .before .before .before .before .before .before .before .before .before .before .before in
+    let if1 = c .before .before .before .before .before .before .before .before .if1 in
+    let if2 = c .before .before .before .before .before .before .before .if2 in
+    let if3 = c .before .before .before .before .before .if3 in
+    let after-cell = c .before .before .before .before .after-cell in
+    stays (now (s .args .words)) ts _ _ _ refl (rw (
+      lt-ltb _ _ (if1 .left),
+      lt-ltb _ _ (if2 .left),
+      part-at
+          (now (s .args .words)) FIRST 256 (s .args .cell) 0 (if2 .left),
+      eq-eqb _ _ (if3 .taken),
+      said-done
+          (afterCell _ _) (after-cell .ensures ∙ ap onwardSays (c .before .before .onward .given .1)),
+      c .one-more .ensures,
+    ))
 
 add-reader-requires : tie.Need-add-reader-requires
 add-reader-requires c κs = search needs
@@ -60,8 +99,25 @@ same-length : tie.Need-same-length
 same-length c = search needs
 
 returns-5 : tie.Need-returns-5
-unfolding enterFree counted need pick andThen turnTells turnLeaves
-returns-5 c = rw (lt-ltb _ _ (c .before .before .before .before .before .before .before .before .before .if1 .left), lt-ltb _ _ (c .before .before .before .before .before .before .before .before .if2 .left), ne-eqb _ _ (c .before .before .before .before .before .before .if3 .left), stood-corrupt _ _ (addReader _ _ _) (c .before .before .before .before .add-reader .ensures) (c .enum-told2 .given .1) .0, stood-corrupt _ _ (addReader _ _ _) (c .before .before .before .before .add-reader .ensures) (c .enum-told2 .given .1) .1)
+unfolding enterFree counted need pick andThen turnTells turnLeaves grid
+returns-5 c ts =
+    let s = c .before .before .before .before .before .before .before .before .before .before .before .before in
+    let if1 = c .before .before .before .before .before .before .before .before .before .if1 in
+    let if2 = c .before .before .before .before .before .before .before .before .if2 in
+    let if3 = c .before .before .before .before .before .before .if3 in
+    let add-reader = c .before .before .before .before .add-reader in
+    stays (now (s .args .words)) ts _ _ _ ((stood-corrupt (now (s .args .words)) (add-reader .last .0)
+    (addReader (countIn (now (s .args .words))) (readersIn (now (s .args .words))) _) (add-reader .ensures)
+    (c .enum-told2 .given .1)) .1) (rw (
+      lt-ltb _ _ (if1 .left),
+      lt-ltb _ _ (if2 .left),
+      part-at
+          (now (s .args .words)) FIRST 256 (s .args .cell) 0 (if2 .left),
+      ne-eqb _ _ (if3 .left),
+      (stood-corrupt (now (s .args .words)) (add-reader .last .0)
+          (addReader (countIn (now (s .args .words))) (readersIn (now (s .args .words))) _) (add-reader .ensures)
+          (c .enum-told2 .given .1)) .0,
+    ))
 
 one-more-requires-2 : tie.Need-one-more-requires-2
 one-more-requires-2 c κs = search needs
@@ -70,8 +126,28 @@ same-length-2 : tie.Need-same-length-2
 same-length-2 c = search needs
 
 returns-6 : tie.Need-returns-6
-unfolding enterFree counted need pick andThen turnTells turnLeaves
-returns-6 c = rw (lt-ltb _ _ (c .before .before .before .before .before .before .before .before .before .before .before .if1 .left), lt-ltb _ _ (c .before .before .before .before .before .before .before .before .before .before .if2 .left), ne-eqb _ _ (c .before .before .before .before .before .before .before .before .if3 .left), stood-in _ _ (addReader _ _ _) (c .before .before .before .before .before .before .add-reader .ensures) _ (c .before .before .stood .given .1), c .one-more2 .ensures)
+unfolding enterFree counted need pick andThen turnTells turnLeaves grid
+returns-6 c ts =
+    let s = c .before .before .before .before .before .before .before .before .before .before .before .before .before .before in
+    let if1 = c .before .before .before .before .before .before .before .before .before .before .before .if1 in
+    let if2 = c .before .before .before .before .before .before .before .before .before .before .if2 in
+    let if3 = c .before .before .before .before .before .before .before .before .if3 in
+    let add-reader = c .before .before .before .before .before .before .add-reader in
+    reads-there (now (s .args .words)) ts _ _ (s .pre) (add-reader .last .0) (add-reader .kept .0)
+    ((stood-in (now (s .args .words)) (add-reader .last .0)
+    (addReader (countIn (now (s .args .words))) (readersIn (now (s .args .words))) _) (add-reader .ensures)
+    (s .pre) (add-reader .kept .0) _ (c .before .before .stood .given .1)) .1)
+    (rw (
+      lt-ltb _ _ (if1 .left),
+      lt-ltb _ _ (if2 .left),
+      part-at (now (s .args .words)) FIRST 256
+          (s .args .cell) 0 (if2 .left),
+      ne-eqb _ _ (if3 .left),
+      (stood-in (now (s .args .words)) (add-reader .last .0)
+          (addReader (countIn (now (s .args .words))) (readersIn (now (s .args .words))) _) (add-reader .ensures)
+          (s .pre) (add-reader .kept .0) _ (c .before .before .stood .given .1)) .0,
+      c .one-more2 .ensures,
+    ))
 
 pub enter-free-spec : {M : Type 1} → statement M
 enter-free-spec =
@@ -79,8 +155,9 @@ enter-free-spec =
     (tie.spec
     returns
     returns-2
+    add-bucket
     mul-bucket
-    shared-slice-read-bucket
+    slice-read-bucket
     after-cell-requires
     enum-known-onward
     enum-told

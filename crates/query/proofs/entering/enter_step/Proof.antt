@@ -1,11 +1,14 @@
 -- enter_step does what `enterStep` says: by the test of the cell, as look_lock answers, then as enter_free does.
-use mathlib.Core.Path.{ap, sym, _∙_}
+use mathlib.Core.Path.{refl, ap, sym, _∙_}
+use denote.Ref.{now}
 use borrow.Author.Tests.{not-true, not-false}
 use Rattle.base.specs.Answer.{attemptSays}
 use Rattle.base.specs.Outcome.{need, andThen, nothing, told-corrupt, told-blocked, told-done}
 use Rattle.base.specs.Step.{turnTells, turnLeaves}
 use Rattle.locks.specs.Lock.{look}
 use Rattle.query.specs.Scan.{enterStep}
+use Rattle.query.proofs.Landing.{stays}
+use Rattle.tables.specs.Grid.{grid}
 use borrow.Author.Needs.{needs}
 use Rattle.query.proofs.entering.enter_step.Statement.{statement}
 use Rattle.query.proofs.entering.enter_step.Tie as tie
@@ -17,8 +20,20 @@ is-visited-requires : tie.Need-is-visited-requires
 is-visited-requires c κs = search needs
 
 returns : tie.Need-returns
-unfolding enterStep need andThen turnTells turnLeaves
-returns c = rw (sym (c .before .is-visited .ensures) ∙ not-true (c .before .is-visited .result) (c .if1 .taken))
+unfolding enterStep need andThen turnTells turnLeaves grid
+returns c ts =
+    let args = c .before .before .before .args in
+    stays (now (args .words)) ts _ _ _ refl (rw (sym (c .before .is-visited .ensures) ∙ not-true
+    (c .before .is-visited .result) (c .if1 .taken)))
+
+sub-look-lock : tie.Need-sub-look-lock
+sub-look-lock c = search needs
+
+part-look-lock-start : tie.Need-part-look-lock-start
+part-look-lock-start c = search needs
+
+part-look-lock-end : tie.Need-part-look-lock-end
+part-look-lock-end c = search needs
 
 look-lock-requires : tie.Need-look-lock-requires
 look-lock-requires c κs = search needs
@@ -35,20 +50,51 @@ enum-told-3 c = search needs
 enter-free-requires : tie.Need-enter-free-requires
 enter-free-requires c κs = search needs
 
-returns-2 : tie.Need-returns-2
-unfolding enterStep need andThen turnTells turnLeaves
-returns-2 c = rw (sym (c .before .before .before .before .is-visited .ensures) ∙ not-false (c .before .before .before .before .is-visited .result) (c .before .before .before .if1 .left), told-corrupt nothing (look _ _) (c .before .before .look-lock .ensures ∙ ap attemptSays (c .enum-told .given .1)))
-
-returns-3 : tie.Need-returns-3
-unfolding enterStep need andThen turnTells turnLeaves
-returns-3 c = rw (sym (c .before .before .before .before .is-visited .ensures) ∙ not-false (c .before .before .before .before .is-visited .result) (c .before .before .before .if1 .left), told-blocked nothing (look _ _) (c .before .before .look-lock .ensures ∙ ap attemptSays (c .enum-told2 .given .1)))
-
 same-length : tie.Need-same-length
 same-length c = search needs
 
+returns-2 : tie.Need-returns-2
+unfolding enterStep need andThen turnTells turnLeaves grid
+returns-2 c ts =
+    let args = c .before .before .before .before .before .before .before .before .args in
+    let is-visited = c .before .before .before .before .before .before .is-visited in
+    let if1 = c .before .before .before .before .before .if1 in
+    stays (now (args .words)) ts _ _ _ refl (rw (
+      sym (is-visited .ensures) ∙ not-false (is-visited .result) (if1 .left),
+      told-corrupt nothing (look _ _) (c .before .before .look-lock .ensures ∙ ap attemptSays
+          (c .enum-told .given .1)),
+    ))
+
+same-length-2 : tie.Need-same-length-2
+same-length-2 c = search needs
+
+returns-3 : tie.Need-returns-3
+unfolding enterStep need andThen turnTells turnLeaves grid
+returns-3 c ts =
+    let args = c .before .before .before .before .before .before .before .before .args in
+    let is-visited = c .before .before .before .before .before .before .is-visited in
+    let if1 = c .before .before .before .before .before .if1 in
+    stays (now (args .words)) ts _ _ _ refl (rw (
+      sym (is-visited .ensures) ∙ not-false (is-visited .result) (if1 .left),
+      told-blocked nothing (look _ _) (c .before .before .look-lock .ensures ∙ ap attemptSays
+          (c .enum-told2 .given .1)),
+    ))
+
+same-length-3 : tie.Need-same-length-3
+same-length-3 c = search needs
+
 returns-4 : tie.Need-returns-4
-unfolding enterStep need andThen
-returns-4 c = rw (sym (c .before .before .before .before .before .before .before .before .is-visited .ensures) ∙ not-false (c .before .before .before .before .before .before .before .before .is-visited .result) (c .before .before .before .before .before .before .before .if1 .left), told-done nothing (look _ _) (c .before .before .before .before .before .before .look-lock .ensures ∙ ap attemptSays (c .before .before .before .before .enum-told3 .given .1)) .1) (c .before .before .enter-free .ensures)
+unfolding enterStep need andThen grid
+returns-4 c ts =
+    let is-visited = c .before .before .before .before .before .before .before .before .before .before .is-visited in
+    let if1 = c .before .before .before .before .before .before .before .before .before .if1 in
+    let look-lock = c .before .before .before .before .before .before .look-lock in
+    let enum-told3 = c .before .before .before .before .enum-told3 in
+    rw (
+      sym (is-visited .ensures) ∙ not-false (is-visited .result) (if1 .left),
+      told-done nothing (look _ _)
+          (look-lock .ensures ∙ ap attemptSays (enum-told3 .given .1)) .1,
+    ) (c .before .before .enter-free .ensures ts)
 
 pub enter-step-spec : {M : Type 1} → statement M
 enter-step-spec =
@@ -56,12 +102,17 @@ enter-step-spec =
     (tie.spec
     is-visited-requires
     returns
+    sub-look-lock
+    part-look-lock-start
+    part-look-lock-end
     look-lock-requires
     enum-told
     enum-told-2
     enum-told-3
     enter-free-requires
-    returns-2
-    returns-3
     same-length
+    returns-2
+    same-length-2
+    returns-3
+    same-length-3
     returns-4)

@@ -1,11 +1,15 @@
 -- leave_last does what `leaveLast` says: as after_cell and take_reader answer.
-use mathlib.Core.Path.{ap, _∙_}
-use Rattle.base.specs.Answer.{changed-corrupt, changed-done}
+use mathlib.Core.Path.{refl, ap, _∙_}
+use denote.Ref.{now}
+use Rattle.words.specs.Words.{readersIn}
+use Rattle.readers.proofs.Answers.{took-corrupt, took-done}
+use Rattle.tables.specs.Grid.{grid}
 use Rattle.base.specs.Outcome.{andThen}
 use Rattle.base.specs.Step.{turnTells, turnLeaves, said-corrupt, said-done}
 use Rattle.readers.specs.Reader.{takeReader}
 use Rattle.query.specs.Scan.{afterCell, onwardSays, leaveLast}
 use Rattle.query.proofs.Lost.{leave-lost}
+use Rattle.query.proofs.Landing.{stays, reads-there}
 use borrow.Author.Needs.{needs}
 use Rattle.query.proofs.leaving.leave_last.Statement.{statement}
 use Rattle.query.proofs.leaving.leave_last.Tie as tie
@@ -23,8 +27,12 @@ enum-told : tie.Need-enum-told
 enum-told c = search needs
 
 returns : tie.Need-returns
-unfolding turnTells turnLeaves
-returns c = rw (leave-lost _ (c .before .before .before .before .args .q) _ _ (said-corrupt (afterCell _ _) (c .before .before .after-cell .ensures ∙ ap onwardSays (c .enum-told .given .1))))
+unfolding turnTells turnLeaves grid
+returns c ts =
+    let s = c .before .before .before .before in
+    stays (now (s .args .words)) ts _ _ _ refl (rw (leave-lost _ (s .args .q) _ _
+    (said-corrupt (afterCell _ _) (c .before .before .after-cell .ensures ∙ ap onwardSays
+    (c .enum-told .given .1)))))
 
 take-reader-requires : tie.Need-take-reader-requires
 take-reader-requires c κs = search needs
@@ -39,8 +47,14 @@ same-length : tie.Need-same-length
 same-length c = search needs
 
 returns-2 : tie.Need-returns-2
-unfolding leaveLast andThen turnTells turnLeaves
-returns-2 c = rw (changed-corrupt _ _ (takeReader _ _) (c .before .before .before .before .take-reader .ensures) (c .enum-told3 .given .1) .0, changed-corrupt _ _ (takeReader _ _) (c .before .before .before .before .take-reader .ensures) (c .enum-told3 .given .1) .1)
+unfolding leaveLast andThen turnTells turnLeaves grid
+returns-2 c ts =
+    let s = c .before .before .before .before .before .before .before .before .before .before .before in
+    let take-reader = c .before .before .before .before .take-reader in
+    stays (now (s .args .words)) ts _ _ _ ((took-corrupt (now (s .args .words)) (take-reader .last .0)
+    (takeReader (readersIn (now (s .args .words))) _) (take-reader .ensures) (c .enum-told3 .given .1)) .1)
+    (rw ((took-corrupt (now (s .args .words)) (take-reader .last .0)
+    (takeReader (readersIn (now (s .args .words))) _) (take-reader .ensures) (c .enum-told3 .given .1)) .0))
 
 one-more-requires : tie.Need-one-more-requires
 one-more-requires c κs = search needs
@@ -49,8 +63,23 @@ same-length-2 : tie.Need-same-length-2
 same-length-2 c = search needs
 
 returns-3 : tie.Need-returns-3
-unfolding leaveLast andThen turnTells turnLeaves
-returns-3 c = rw (changed-done _ _ (takeReader _ _) (c .before .before .before .before .before .take-reader .ensures) (c .before .enum-told2 .given .1), said-done (afterCell _ _) (c .before .before .before .before .before .before .before .before .before .before .after-cell .ensures ∙ ap onwardSays (c .before .before .before .before .before .before .before .before .onward .given .1)), c .one-more .ensures)
+unfolding leaveLast andThen turnTells turnLeaves grid
+returns-3 c ts =
+    let s = c .before .before .before .before .before .before .before .before .before .before .before .before in
+    let after-cell = c .before .before .before .before .before .before .before .before .before .before .after-cell in
+    let onward = c .before .before .before .before .before .before .before .before .onward in
+    let take-reader = c .before .before .before .before .before .take-reader in
+    reads-there (now (s .args .words)) ts _ _ (s .pre .0) (take-reader .last .0) (take-reader .kept .0)
+    ((took-done (now (s .args .words)) (take-reader .last .0) (takeReader (readersIn (now (s .args .words))) _)
+    (take-reader .ensures) (s .pre .0) (take-reader .kept .0) (c .before .enum-told2 .given .1)) .1)
+    (rw (
+      (took-done (now (s .args .words)) (take-reader .last .0)
+          (takeReader (readersIn (now (s .args .words))) _) (take-reader .ensures) (s .pre .0) (take-reader .kept .0)
+          (c .before .enum-told2 .given .1)) .0,
+      said-done (afterCell _ _)
+          (after-cell .ensures ∙ ap onwardSays (onward .given .1)),
+      c .one-more .ensures,
+    ))
 
 pub leave-last-spec : {M : Type 1} → statement M
 leave-last-spec =

@@ -23,14 +23,30 @@ can-compare-requires c κs = search needs
 
 returns-2 : tie.Need-returns-2
 unfolding consider need pick tells leaves
-returns-2 c = rw (sym (c .before .before .before .is-inside .ensures) ∙ not-false (c .before .before .before .is-inside .result) (c .before .before .if1 .left), sym (c .before .can-compare .ensures) ∙ not-true (c .before .can-compare .result) (c .if2 .taken))
+returns-2 c =
+    let is-inside = c .before .before .before .is-inside in
+    rw (
+      sym (is-inside .ensures) ∙ not-false (is-inside .result) (c .before .before .if1 .left),
+      sym
+          (c .before .can-compare .ensures) ∙ not-true (c .before .can-compare .result) (c .if2 .taken),
+    )
 
 is-seen-requires : tie.Need-is-seen-requires
 is-seen-requires c κs = search needs
 
 returns-3 : tie.Need-returns-3
 unfolding consider need pick tells leaves
-returns-3 c = rw (sym (c .before .before .before .before .before .is-inside .ensures) ∙ not-false (c .before .before .before .before .before .is-inside .result) (c .before .before .before .before .if1 .left), sym (c .before .before .before .can-compare .ensures) ∙ not-false (c .before .before .before .can-compare .result) (c .before .before .if2 .left), sym (c .before .is-seen .ensures) ∙ not-true (c .before .is-seen .result) (c .if3 .taken))
+returns-3 c =
+    let is-inside = c .before .before .before .before .before .is-inside in
+    let if1 = c .before .before .before .before .if1 in
+    let can-compare = c .before .before .before .can-compare in
+    rw (
+      sym (is-inside .ensures) ∙ not-false (is-inside .result) (if1 .left),
+      sym (can-compare .ensures) ∙ not-false
+          (can-compare .result) (c .before .before .if2 .left),
+      sym (c .before .is-seen .ensures) ∙ not-true
+          (c .before .is-seen .result) (c .if3 .taken),
+    )
 
 note-tuple-requires : tie.Need-note-tuple-requires
 note-tuple-requires c κs = search needs
@@ -38,15 +54,22 @@ note-tuple-requires c κs = search needs
 same-length : tie.Need-same-length
 same-length c = search needs
 
-same-length-2 : tie.Need-same-length-2
-same-length-2 c = search needs
-
-same-length-3 : tie.Need-same-length-3
-same-length-3 c = search needs
-
 returns-4 : tie.Need-returns-4
 unfolding consider need pick
-returns-4 c = rw (sym (c .before .before .before .before .before .before .before .before .before .before .before .before .before .before .before .is-inside .ensures) ∙ not-false (c .before .before .before .before .before .before .before .before .before .before .before .before .before .before .before .is-inside .result) (c .before .before .before .before .before .before .before .before .before .before .before .before .before .before .if1 .left), sym (c .before .before .before .before .before .before .before .before .before .before .before .before .before .can-compare .ensures) ∙ not-false (c .before .before .before .before .before .before .before .before .before .before .before .before .before .can-compare .result) (c .before .before .before .before .before .before .before .before .before .before .before .before .if2 .left), sym (c .before .before .before .before .before .before .before .before .before .before .before .is-seen .ensures) ∙ not-false (c .before .before .before .before .before .before .before .before .before .before .before .is-seen .result) (c .before .before .before .before .before .before .before .before .before .before .if3 .left)) (c .before .before .before .before .before .before .note-tuple .ensures)
+returns-4 c =
+    let is-inside = c .before .before .before .before .before .before .before .before .before .is-inside in
+    let if1 = c .before .before .before .before .before .before .before .before .if1 in
+    let can-compare = c .before .before .before .before .before .before .before .can-compare in
+    let if2 = c .before .before .before .before .before .before .if2 in
+    let is-seen = c .before .before .before .before .before .is-seen in
+    let if3 = c .before .before .before .before .if3 in
+    rw (
+      sym (is-inside .ensures) ∙ not-false (is-inside .result) (if1 .left),
+      sym (can-compare .ensures) ∙ not-false
+          (can-compare .result) (if2 .left),
+      sym (is-seen .ensures) ∙ not-false (is-seen .result) (if3 .left),
+    )
+    (c .before .before .note-tuple .ensures)
 
 pub consider-tuple-spec : {M : Type 1} → statement M
 consider-tuple-spec =
@@ -60,6 +83,4 @@ consider-tuple-spec =
     returns-3
     note-tuple-requires
     same-length
-    same-length-2
-    same-length-3
     returns-4)

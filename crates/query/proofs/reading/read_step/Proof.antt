@@ -1,14 +1,20 @@
 -- read_step does what `readStep` says: by the tests that led to each return, then as read_tuple and consider_tuple answer.
 use mathlib.Core.Path.{ap, _∙_}
+use native.Mathlib.Omega.{arith}
+use denote.Ref.{now}
 use borrow.Author.Tests.{lt-ltb, le-ltb, eq-eqb, ne-eqb}
 use Rattle.base.specs.Outcome.{need, andThen}
 use Rattle.base.specs.Step.{turnTells, turnLeaves}
+use Rattle.words.specs.Map.{TUPLES, TUPLES-SIZE, HITS, HITS-SIZE}
 use Rattle.layout.specs.Question.{cornersSays}
 use Rattle.layout.proofs.Corners.{proper-iff, refused-tests}
 use Rattle.slots.specs.Tuple.{read}
 use Rattle.slots.proofs.Answers.{tuple-corrupt, tuple-at}
 use Rattle.hits.proofs.Answers.{noted-corrupt, noted-size}
+use Rattle.tables.proofs.Grid.{long}
+use Rattle.tables.specs.Grid.{grid}
 use Rattle.query.specs.Scan.{counted, consider, readStep}
+use Rattle.query.proofs.Landing.{keeps, notes}
 use borrow.Author.Needs.{needs}
 use Rattle.query.proofs.reading.read_step.Statement.{statement}
 use Rattle.query.proofs.reading.read_step.Tie as tie
@@ -18,8 +24,10 @@ use Rattle.query.proofs.reading.consider_tuple.Reads as consider-tuple-
 use Rattle.slots.proofs.tuple.read_tuple.Reads as read-tuple-reads
 
 returns : tie.Need-returns
-unfolding readStep counted need andThen turnTells turnLeaves
-returns c = rw (le-ltb _ _ (c .if1 .taken))
+unfolding readStep counted need andThen turnTells turnLeaves grid
+returns c =
+    let s = c .before .before .before in
+    keeps (now (s .args .words)) (now (s .args .times)) _ _ (rw (le-ltb _ _ (c .if1 .taken)))
 
 check-corners-requires : tie.Need-check-corners-requires
 check-corners-requires c κs = search needs
@@ -28,18 +36,46 @@ enum-told : tie.Need-enum-told
 enum-told c = search needs
 
 returns-2 : tie.Need-returns-2
-unfolding readStep counted need andThen turnTells turnLeaves
-returns-2 c = rw (lt-ltb _ _ (c .before .before .if1 .left), refused-tests _ (c .before .check-corners .result) (c .before .check-corners .ensures) (c .match .keys2))
+unfolding readStep counted need andThen turnTells turnLeaves grid
+returns-2 c =
+    let s = c .before .before .before .before .before in
+    keeps (now (s .args .words)) (now (s .args .times)) _ _
+    (rw (
+      lt-ltb _ _ (c .before .before .if1 .left),
+      refused-tests _ (c .before .check-corners .result)
+          (c .before .check-corners .ensures) (c .match .keys2),
+    ))
 
 returns-3 : tie.Need-returns-3
-unfolding readStep counted need andThen turnTells turnLeaves
-returns-3 c = rw (lt-ltb _ _ (c .before .before .before .before .before .if1 .left), proper-iff _ .0 (c .before .before .before .before .check-corners .ensures ∙ ap cornersSays (c .before .before .enum-told .given .1)), eq-eqb _ _ (c .if2 .taken))
+unfolding readStep counted need andThen turnTells turnLeaves grid
+returns-3 c =
+    let s = c .before .before .before .before .before .before .before .before in
+    let if1 = c .before .before .before .before .before .if1 in
+    let check-corners = c .before .before .before .before .check-corners in
+    keeps (now (s .args .words)) (now (s .args .times)) _ _
+    (rw (
+      lt-ltb _ _ (if1 .left),
+      proper-iff _ .0 (check-corners .ensures ∙ ap cornersSays
+          (c .before .before .enum-told .given .1)),
+      eq-eqb _ _ (c .if2 .taken),
+    ))
 
 sub-slot : tie.Need-sub-slot
 sub-slot c = search needs
 
+sub-read-tuple : tie.Need-sub-read-tuple
+sub-read-tuple c = search needs
+
+part-read-tuple-start : tie.Need-part-read-tuple-start
+part-read-tuple-start c = search needs
+
+part-read-tuple-end : tie.Need-part-read-tuple-end
+part-read-tuple-end c = search needs
+
 read-tuple-requires : tie.Need-read-tuple-requires
-read-tuple-requires c κs = search needs
+read-tuple-requires c κs =
+    let s = c .before .before .before .before .before .before .before .before .before .before .before in
+    (long (now (s .args .words)) (s .pre .0) TUPLES TUPLES-SIZE (omega arith), s .pre .1)
 
 enum-known-read : tie.Need-enum-known-read
 enum-known-read c = search needs
@@ -47,12 +83,40 @@ enum-known-read c = search needs
 enum-told-2 : tie.Need-enum-told-2
 enum-told-2 c = search needs
 
+same-length : tie.Need-same-length
+same-length c = search needs
+
 returns-4 : tie.Need-returns-4
-unfolding readStep counted need andThen turnTells turnLeaves
-returns-4 c = rw (lt-ltb _ _ (c .before .before .before .before .before .before .before .before .before .if1 .left), proper-iff _ .0 (c .before .before .before .before .before .before .before .before .check-corners .ensures ∙ ap cornersSays (c .before .before .before .before .before .before .enum-told .given .1)), ne-eqb _ _ (c .before .before .before .before .if2 .left), tuple-corrupt (read _ _ _) (c .before .before .read-tuple .ensures) (c .enum-told2 .given .1))
+unfolding readStep counted need andThen turnTells turnLeaves grid
+returns-4 c =
+    let s = c .before .before .before .before .before .before .before .before .before .before .before .before .before .before in
+    let if1 = c .before .before .before .before .before .before .before .before .before .before .before .if1 in
+    let check-corners = c .before .before .before .before .before .before .before .before .before .before .check-corners in
+    let enum-told = c .before .before .before .before .before .before .before .before .enum-told in
+    let if2 = c .before .before .before .before .before .before .if2 in
+    keeps (now (s .args .words)) (now (s .args .times)) _ _
+    (rw (
+      lt-ltb _ _ (if1 .left),
+      proper-iff _ .0 (check-corners .ensures ∙ ap cornersSays
+          (enum-told .given .1)),
+      ne-eqb _ _ (if2 .left),
+      tuple-corrupt (read _ _ _)
+          (c .before .before .read-tuple .ensures) (c .enum-told2 .given .1),
+    ))
+
+sub-consider-tuple : tie.Need-sub-consider-tuple
+sub-consider-tuple c = search needs
+
+part-consider-tuple-start : tie.Need-part-consider-tuple-start
+part-consider-tuple-start c = search needs
+
+part-consider-tuple-end : tie.Need-part-consider-tuple-end
+part-consider-tuple-end c = search needs
 
 consider-tuple-requires : tie.Need-consider-tuple-requires
-consider-tuple-requires c κs = search needs
+consider-tuple-requires c κs =
+    let s = c .before .before .before .before .before .before .before .before .before .before .before .before .before .before .before .before in
+    (long (now (s .args .words)) (s .pre .0) HITS HITS-SIZE (omega arith), s .pre .2)
 
 enum-known-noted : tie.Need-enum-known-noted
 enum-known-noted c = search needs
@@ -60,34 +124,65 @@ enum-known-noted c = search needs
 enum-told-3 : tie.Need-enum-told-3
 enum-told-3 c = search needs
 
-same-length : tie.Need-same-length
-same-length c = search needs
-
 same-length-2 : tie.Need-same-length-2
 same-length-2 c = search needs
 
-same-length-3 : tie.Need-same-length-3
-same-length-3 c = search needs
-
 returns-5 : tie.Need-returns-5
-unfolding readStep counted need andThen turnTells turnLeaves
-returns-5 c = rw (lt-ltb _ _ (c .before .before .before .before .before .before .before .before .before .before .before .before .before .before .before .before .before .before .before .before .before .before .if1 .left), proper-iff _ .0 (c .before .before .before .before .before .before .before .before .before .before .before .before .before .before .before .before .before .before .before .before .before .check-corners .ensures ∙ ap cornersSays (c .before .before .before .before .before .before .before .before .before .before .before .before .before .before .before .before .before .before .before .enum-told .given .1)), ne-eqb _ _ (c .before .before .before .before .before .before .before .before .before .before .before .before .before .before .before .before .before .if2 .left), tuple-at (read _ _ _) (c .before .before .before .before .before .before .before .before .before .before .before .before .before .before .before .read-tuple .ensures) _ (c .before .before .before .before .before .before .before .before .before .before .before .before .before .read .given .1), noted-corrupt _ _ (consider _ _ _ _) (c .before .before .before .before .before .before .before .before .consider-tuple .ensures) (c .enum-told3 .given .1) .0, noted-corrupt _ _ (consider _ _ _ _) (c .before .before .before .before .before .before .before .before .consider-tuple .ensures) (c .enum-told3 .given .1) .1)
+unfolding readStep counted need andThen turnTells turnLeaves grid
+returns-5 c =
+    let s = c .before .before .before .before .before .before .before .before .before .before .before .before .before .before .before .before .before .before .before .before .before in
+    let if1 = c .before .before .before .before .before .before .before .before .before .before .before .before .before .before .before .before .before .before .if1 in
+    let check-corners = c .before .before .before .before .before .before .before .before .before .before .before .before .before .before .before .before .before .check-corners in
+    let enum-told = c .before .before .before .before .before .before .before .before .before .before .before .before .before .before .before .enum-told in
+    let if2 = c .before .before .before .before .before .before .before .before .before .before .before .before .before .if2 in
+    let read-tuple = c .before .before .before .before .before .before .before .before .before .read-tuple in
+    let read′ = c .before .before .before .before .before .before .before .read in
+    let consider-tuple = c .before .before .before .before .consider-tuple in
+    notes (now (s .args .words)) (now (s .args .times)) _ _ (s .pre .0) (consider-tuple .last .0)
+    (consider-tuple .kept .0 ∙ long (now (s .args .words)) (s .pre .0) HITS HITS-SIZE (omega arith))
+    (rw (
+      lt-ltb _ _ (if1 .left),
+      proper-iff _ .0 (check-corners .ensures ∙ ap cornersSays
+          (enum-told .given .1)),
+      ne-eqb _ _ (if2 .left),
+      tuple-at (read _ _ _) (read-tuple .ensures) _
+          (read′ .given .1),
+      noted-corrupt _ _ (consider _ _ _ _) (consider-tuple .ensures)
+          (c .enum-told3 .given .1) .0,
+      noted-corrupt _ _ (consider _ _ _ _) (consider-tuple .ensures)
+          (c .enum-told3 .given .1) .1,
+    ))
 
 one-more-requires : tie.Need-one-more-requires
 one-more-requires c κs = search needs
 
-same-length-4 : tie.Need-same-length-4
-same-length-4 c = search needs
-
-same-length-5 : tie.Need-same-length-5
-same-length-5 c = search needs
-
-same-length-6 : tie.Need-same-length-6
-same-length-6 c = search needs
+same-length-3 : tie.Need-same-length-3
+same-length-3 c = search needs
 
 returns-6 : tie.Need-returns-6
-unfolding readStep counted need andThen turnTells turnLeaves
-returns-6 c = rw (lt-ltb _ _ (c .before .before .before .before .before .before .before .before .before .before .before .before .before .before .before .before .before .before .before .before .before .before .before .before .if1 .left), proper-iff _ .0 (c .before .before .before .before .before .before .before .before .before .before .before .before .before .before .before .before .before .before .before .before .before .before .before .check-corners .ensures ∙ ap cornersSays (c .before .before .before .before .before .before .before .before .before .before .before .before .before .before .before .before .before .before .before .before .before .enum-told .given .1)), ne-eqb _ _ (c .before .before .before .before .before .before .before .before .before .before .before .before .before .before .before .before .before .before .before .if2 .left), tuple-at (read _ _ _) (c .before .before .before .before .before .before .before .before .before .before .before .before .before .before .before .before .before .read-tuple .ensures) _ (c .before .before .before .before .before .before .before .before .before .before .before .before .before .before .before .read .given .1), noted-size _ _ (consider _ _ _ _) (c .before .before .before .before .before .before .before .before .before .before .consider-tuple .ensures) _ (c .before .before .noted .given .1), c .one-more .ensures)
+unfolding readStep counted need andThen turnTells turnLeaves grid
+returns-6 c =
+    let s = c .before .before .before .before .before .before .before .before .before .before .before .before .before .before .before .before .before .before .before .before .before .before .before in
+    let if1 = c .before .before .before .before .before .before .before .before .before .before .before .before .before .before .before .before .before .before .before .before .if1 in
+    let check-corners = c .before .before .before .before .before .before .before .before .before .before .before .before .before .before .before .before .before .before .before .check-corners in
+    let enum-told = c .before .before .before .before .before .before .before .before .before .before .before .before .before .before .before .before .before .enum-told in
+    let if2 = c .before .before .before .before .before .before .before .before .before .before .before .before .before .before .before .if2 in
+    let read-tuple = c .before .before .before .before .before .before .before .before .before .before .before .read-tuple in
+    let read′ = c .before .before .before .before .before .before .before .before .before .read in
+    let consider-tuple = c .before .before .before .before .before .before .consider-tuple in
+    notes (now (s .args .words)) (now (s .args .times)) _ _ (s .pre .0) (consider-tuple .last .0)
+    (consider-tuple .kept .0 ∙ long (now (s .args .words)) (s .pre .0) HITS HITS-SIZE (omega arith))
+    (rw (
+      lt-ltb _ _ (if1 .left),
+      proper-iff _ .0 (check-corners .ensures ∙ ap cornersSays
+          (enum-told .given .1)),
+      ne-eqb _ _ (if2 .left),
+      tuple-at (read _ _ _) (read-tuple .ensures) _
+          (read′ .given .1),
+      noted-size _ _ (consider _ _ _ _) (consider-tuple .ensures) _
+          (c .before .before .noted .given .1),
+      c .one-more .ensures,
+    ))
 
 pub read-step-spec : {M : Type 1} → statement M
 read-step-spec =
@@ -99,19 +194,22 @@ read-step-spec =
     returns-2
     returns-3
     sub-slot
+    sub-read-tuple
+    part-read-tuple-start
+    part-read-tuple-end
     read-tuple-requires
     enum-known-read
     enum-told-2
+    same-length
     returns-4
+    sub-consider-tuple
+    part-consider-tuple-start
+    part-consider-tuple-end
     consider-tuple-requires
     enum-known-noted
     enum-told-3
-    same-length
     same-length-2
-    same-length-3
     returns-5
     one-more-requires
-    same-length-4
-    same-length-5
-    same-length-6
+    same-length-3
     returns-6)

@@ -1,12 +1,15 @@
 -- copy_tuple does what `copy` says: one case for each return, by the tests that led there.
 use borrow.Author.Tests.{le-ltb, lt-ltb}
+use denote.Ref.{now}
 use Rattle.base.specs.Outcome.{need, tells, leaves}
 use Rattle.slots.specs.Tuple.{copy, needSlot}
+use Rattle.slots.proofs.Written.{copied}
 use mir.Syntax.{w32}
 use mir.ValLaws.{toZ-ofZ}
 use borrow.Author.Needs.{needs}
 use Rattle.slots.proofs.tuple.copy_tuple.Statement.{statement}
 use Rattle.slots.proofs.tuple.copy_tuple.Tie as tie
+use Rattle.slots.proofs.tuple.put_tuple.Reads as put-tuple-reads
 
 returns : tie.Need-returns
 unfolding copy needSlot need tells leaves
@@ -18,11 +21,20 @@ returns-2 c = rw (lt-ltb _ _ (c .before .if1 .left), le-ltb _ _ (c .if2 .taken))
 
 returns-3 : tie.Need-returns-3
 unfolding copy needSlot need tells leaves
-returns-3 c = rw (lt-ltb _ _ (c .before .before .if1 .left), lt-ltb _ _ (c .before .if2 .left), le-ltb _ _ (c .if3 .taken))
+returns-3 c =
+    rw (lt-ltb _ _ (c .before .before .if1 .left), lt-ltb _ _ (c .before .if2 .left), le-ltb _ _ (c .if3 .taken))
 
 returns-4 : tie.Need-returns-4
 unfolding copy needSlot need tells leaves
-returns-4 c = rw (lt-ltb _ _ (c .before .before .before .if1 .left), lt-ltb _ _ (c .before .before .if2 .left), lt-ltb _ _ (c .before .if3 .left), le-ltb _ _ (c .if4 .taken))
+returns-4 c =
+    let if1 = c .before .before .before .if1 in
+    rw (
+      lt-ltb _ _ (if1 .left),
+      lt-ltb _ _ (c .before .before .if2 .left),
+      lt-ltb _ _ (c .before .if3 .left),
+      le-ltb _ _
+          (c .if4 .taken),
+    )
 
 mul-from : tie.Need-mul-from
 mul-from c = search needs
@@ -42,41 +54,32 @@ add-to c = search needs
 cast-to : tie.Need-cast-to
 cast-to c = search needs
 
-mul-oids : tie.Need-mul-oids
-mul-oids c = search needs
+mul-oid : tie.Need-mul-oid
+mul-oid c = search needs
 
-slice-read-oids : tie.Need-slice-read-oids
-slice-read-oids c = search needs
+slice-read-oid : tie.Need-slice-read-oid
+slice-read-oid c = search needs
 
-mul-oids-2 : tie.Need-mul-oids-2
-mul-oids-2 c = search needs
+add-x : tie.Need-add-x
+add-x c = search needs
 
-slice-write-oids : tie.Need-slice-write-oids
-slice-write-oids c = search needs
+mul-x : tie.Need-mul-x
+mul-x c = search needs
 
-mul-xs : tie.Need-mul-xs
-mul-xs c = search needs
+slice-read-x : tie.Need-slice-read-x
+slice-read-x c = search needs
 
-slice-read-xs : tie.Need-slice-read-xs
-slice-read-xs c = search needs
+add-y : tie.Need-add-y
+add-y c = search needs
 
-mul-xs-2 : tie.Need-mul-xs-2
-mul-xs-2 c = search needs
+mul-y : tie.Need-mul-y
+mul-y c = search needs
 
-slice-write-xs : tie.Need-slice-write-xs
-slice-write-xs c = search needs
+slice-read-y : tie.Need-slice-read-y
+slice-read-y c = search needs
 
-mul-ys : tie.Need-mul-ys
-mul-ys c = search needs
-
-slice-read-ys : tie.Need-slice-read-ys
-slice-read-ys c = search needs
-
-mul-ys-2 : tie.Need-mul-ys-2
-mul-ys-2 c = search needs
-
-slice-write-ys : tie.Need-slice-write-ys
-slice-write-ys c = search needs
+put-tuple-requires : tie.Need-put-tuple-requires
+put-tuple-requires c κs = search needs
 
 mul-times : tie.Need-mul-times
 mul-times c = search needs
@@ -84,8 +87,8 @@ mul-times c = search needs
 slice-copy-out-times : tie.Need-slice-copy-out-times
 slice-copy-out-times c = search needs
 
-mul-t16 : tie.Need-mul-t16
-mul-t16 c = search needs
+mul-t17 : tie.Need-mul-t17
+mul-t17 c = search needs
 
 slice-set-from-times : tie.Need-slice-set-from-times
 slice-set-from-times c = search needs
@@ -96,15 +99,16 @@ same-length c = search needs
 same-length-2 : tie.Need-same-length-2
 same-length-2 c = search needs
 
-same-length-3 : tie.Need-same-length-3
-same-length-3 c = search needs
-
-same-length-4 : tie.Need-same-length-4
-same-length-4 c = search needs
-
 returns-5 : tie.Need-returns-5
-unfolding copy needSlot need tells leaves
-returns-5 c = rw (toZ-ofZ w32 _ (record { sfits = c .times .given }), lt-ltb _ _ (c .before .before .before .before .before .before .before .if1 .left), lt-ltb _ _ (c .before .before .before .before .before .before .if2 .left), lt-ltb _ _ (c .before .before .before .before .before .if3 .left), lt-ltb _ _ (c .before .before .before .before .if4 .left))
+returns-5 c =
+    let s = c .before .before .before .before .before .before .before .before .before .before .before .before .before in
+    let if1 = c .before .before .before .before .before .before .before .before .before .before .before .if1 in
+    let if2 = c .before .before .before .before .before .before .before .before .before .before .if2 in
+    let if3 = c .before .before .before .before .before .before .before .before .before .if3 in
+    let if4 = c .before .before .before .before .before .before .before .before .if4 in
+    let put-tuple = c .before .before .before .put-tuple in
+    copied (now (s .args .tuples)) (put-tuple .last .0) (now (s .args .times)) _ _ _ (if1 .left) (if2 .left) _ _
+    (if3 .left) (if4 .left) (toZ-ofZ w32 _ (record { sfits = c .times .given })) (put-tuple .ensures)
 
 pub copy-tuple-spec : {M : Type 1} → statement M
 copy-tuple-spec =
@@ -120,24 +124,19 @@ copy-tuple-spec =
     mul-to
     add-to
     cast-to
-    mul-oids
-    slice-read-oids
-    mul-oids-2
-    slice-write-oids
-    mul-xs
-    slice-read-xs
-    mul-xs-2
-    slice-write-xs
-    mul-ys
-    slice-read-ys
-    mul-ys-2
-    slice-write-ys
+    mul-oid
+    slice-read-oid
+    add-x
+    mul-x
+    slice-read-x
+    add-y
+    mul-y
+    slice-read-y
+    put-tuple-requires
     mul-times
     slice-copy-out-times
-    mul-t16
+    mul-t17
     slice-set-from-times
     same-length
     same-length-2
-    same-length-3
-    same-length-4
     returns-5)

@@ -1,7 +1,9 @@
 -- overwrite_tuple does what `overwrite` says: one case for each return, by the tests that led there.
 use borrow.Author.Tests.{le-ltb, lt-ltb, not-false, not-true}
+use denote.Ref.{now}
 use Rattle.base.specs.Outcome.{need, tells, leaves}
 use Rattle.slots.specs.Tuple.{overwrite, needSlot}
+use Rattle.slots.proofs.Written.{overwritten}
 use mathlib.Core.Path.{sym, _∙_}
 use mir.Syntax.{w32}
 use mir.ValLaws.{toZ-ofZ}
@@ -9,6 +11,9 @@ use Rattle.slots.proofs.Signs.{range-below}
 use borrow.Author.Needs.{needs}
 use Rattle.slots.proofs.tuple.overwrite_tuple.Statement.{statement}
 use Rattle.slots.proofs.tuple.overwrite_tuple.Tie as tie
+use Rattle.slots.proofs.stamp.current_stamp.Reads as current-stamp-reads
+use Rattle.slots.proofs.tuple.in_range.Reads as in-range-reads
+use Rattle.slots.proofs.tuple.put_tuple.Reads as put-tuple-reads
 
 returns : tie.Need-returns
 unfolding overwrite needSlot need tells leaves
@@ -23,7 +28,14 @@ in-range-requires c κs = search needs
 
 returns-3 : tie.Need-returns-3
 unfolding overwrite needSlot need tells leaves
-returns-3 c = rw (lt-ltb _ _ (c .before .before .before .if1 .left), lt-ltb _ _ (c .before .before .if2 .left), sym (c .before .in-range .ensures) ∙ not-true (c .before .in-range .result) (c .if3 .taken))
+returns-3 c =
+    let if1 = c .before .before .before .if1 in
+    rw (
+      lt-ltb _ _ (if1 .left),
+      lt-ltb _ _ (c .before .before .if2 .left),
+      sym (c .before .in-range .ensures) ∙ not-true
+          (c .before .in-range .result) (c .if3 .taken),
+    )
 
 mul-i : tie.Need-mul-i
 mul-i c = search needs
@@ -35,25 +47,11 @@ cast-i : tie.Need-cast-i
 cast-i c = search needs
 
 current-stamp-requires : tie.Need-current-stamp-requires
-current-stamp-requires c κs = range-below _ (sym (c .before .in-range .ensures) ∙ not-false (c .before .in-range .result) (c .if3 .left))
+current-stamp-requires c κs =
+    range-below _ (sym (c .before .in-range .ensures) ∙ not-false (c .before .in-range .result) (c .if3 .left))
 
-mul-oids : tie.Need-mul-oids
-mul-oids c = search needs
-
-slice-write-oids : tie.Need-slice-write-oids
-slice-write-oids c = search needs
-
-mul-xs : tie.Need-mul-xs
-mul-xs c = search needs
-
-slice-write-xs : tie.Need-slice-write-xs
-slice-write-xs c = search needs
-
-mul-ys : tie.Need-mul-ys
-mul-ys c = search needs
-
-slice-write-ys : tie.Need-slice-write-ys
-slice-write-ys c = search needs
+put-tuple-requires : tie.Need-put-tuple-requires
+put-tuple-requires c κs = search needs
 
 mul-s : tie.Need-mul-s
 mul-s c = search needs
@@ -67,15 +65,18 @@ same-length c = search needs
 same-length-2 : tie.Need-same-length-2
 same-length-2 c = search needs
 
-same-length-3 : tie.Need-same-length-3
-same-length-3 c = search needs
-
-same-length-4 : tie.Need-same-length-4
-same-length-4 c = search needs
-
 returns-4 : tie.Need-returns-4
-unfolding overwrite needSlot need tells leaves
-returns-4 c = rw (lt-ltb _ _ (c .before .before .before .before .if1 .left), lt-ltb _ _ (c .before .before .before .if2 .left), sym (c .before .before .in-range .ensures) ∙ not-false (c .before .before .in-range .result) (c .before .if3 .left), toZ-ofZ w32 _ (record { sfits = c .current-stamp .ok }), c .current-stamp .ensures)
+returns-4 c =
+    let s = c .before .before .before .before .before .before .before .before .before .before in
+    let if1 = c .before .before .before .before .before .before .before .before .if1 in
+    let if2 = c .before .before .before .before .before .before .before .if2 in
+    let in-range = c .before .before .before .before .before .before .in-range in
+    let if3 = c .before .before .before .before .before .if3 in
+    let current-stamp = c .before .before .before .before .current-stamp in
+    overwritten (now (s .args .tuples)) (c .before .before .put-tuple .last .0) (now (s .args .times)) _ _ _ (if1 .left)
+    (if2 .left) _ _ _ _ (sym (in-range .ensures) ∙ not-false (in-range .result) (if3 .left))
+    (toZ-ofZ w32 _ (record { sfits = current-stamp .ok }) ∙ current-stamp .ensures)
+    (c .before .before .put-tuple .ensures)
 
 pub overwrite-tuple-spec : {M : Type 1} → statement M
 overwrite-tuple-spec =
@@ -89,16 +90,9 @@ overwrite-tuple-spec =
     add-i
     cast-i
     current-stamp-requires
-    mul-oids
-    slice-write-oids
-    mul-xs
-    slice-write-xs
-    mul-ys
-    slice-write-ys
+    put-tuple-requires
     mul-s
     slice-set-from-s
     same-length
     same-length-2
-    same-length-3
-    same-length-4
     returns-4)

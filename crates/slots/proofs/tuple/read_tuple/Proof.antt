@@ -1,13 +1,20 @@
 -- read_tuple answers what `read` says: one case for each return, by the tests that led there and the stamp.
 use borrow.Author.Tests.{le-ltb, lt-ltb}
+use Prim.Native.Nat.{_+_, _*_}
+use native.Mathlib.Nat.{zero-add}
+use denote.Ref.{now}
 use Rattle.base.specs.Outcome.{need, tells}
+use Rattle.words.specs.Map.{TUPLE-XS, TUPLE-YS}
+use Rattle.words.proofs.Parts.{part-at}
 use Rattle.slots.specs.Tuple.{read, needSlot, seen}
+use Rattle.slots.proofs.Putting.{lt-slot}
 use mathlib.Core.Path.{sym}
 use mir.Syntax.{w32}
 use mir.ValLaws.{toZ-ofZ}
 use borrow.Author.Needs.{needs}
 use Rattle.slots.proofs.tuple.read_tuple.Statement.{statement}
 use Rattle.slots.proofs.tuple.read_tuple.Tie as tie
+use Rattle.slots.proofs.stamp.read_stamp.Reads as read-stamp-reads
 
 returns : tie.Need-returns
 unfolding read needSlot seen need tells
@@ -41,17 +48,23 @@ enum-told c = search needs
 enum-known-stamp : tie.Need-enum-known-stamp
 enum-known-stamp c = search needs
 
-mul-t19 : tie.Need-mul-t19
-mul-t19 c = search needs
+mul-t17 : tie.Need-mul-t17
+mul-t17 c = search needs
 
-shared-slice-read-t21 : tie.Need-shared-slice-read-t21
-shared-slice-read-t21 c = search needs
+shared-slice-read-t19 : tie.Need-shared-slice-read-t19
+shared-slice-read-t19 c = search needs
 
-mul-t22 : tie.Need-mul-t22
-mul-t22 c = search needs
+add-t20 : tie.Need-add-t20
+add-t20 c = search needs
 
-shared-slice-read-t24 : tie.Need-shared-slice-read-t24
-shared-slice-read-t24 c = search needs
+mul-t21 : tie.Need-mul-t21
+mul-t21 c = search needs
+
+shared-slice-read-t23 : tie.Need-shared-slice-read-t23
+shared-slice-read-t23 c = search needs
+
+add-t24 : tie.Need-add-t24
+add-t24 c = search needs
 
 mul-t25 : tie.Need-mul-t25
 mul-t25 c = search needs
@@ -68,29 +81,85 @@ mul-t29 c = search needs
 shared-slice-read-t31 : tie.Need-shared-slice-read-t31
 shared-slice-read-t31 c = search needs
 
-mul-t32 : tie.Need-mul-t32
-mul-t32 c = search needs
+add-t32 : tie.Need-add-t32
+add-t32 c = search needs
 
-shared-slice-read-t34 : tie.Need-shared-slice-read-t34
-shared-slice-read-t34 c = search needs
+mul-t33 : tie.Need-mul-t33
+mul-t33 c = search needs
 
-mul-t35 : tie.Need-mul-t35
-mul-t35 c = search needs
+shared-slice-read-t35 : tie.Need-shared-slice-read-t35
+shared-slice-read-t35 c = search needs
 
-shared-slice-read-t37 : tie.Need-shared-slice-read-t37
-shared-slice-read-t37 c = search needs
+add-t36 : tie.Need-add-t36
+add-t36 c = search needs
+
+mul-t37 : tie.Need-mul-t37
+mul-t37 c = search needs
+
+shared-slice-read-t39 : tie.Need-shared-slice-read-t39
+shared-slice-read-t39 c = search needs
 
 returns-3 : tie.Need-returns-3
 unfolding read needSlot seen need tells
-returns-3 c = rw (lt-ltb _ _ (c .before .before .before .before .before .if1 .left), lt-ltb _ _ (c .before .before .before .before .if2 .left), sym (rw (toZ-ofZ w32 _ (record { sfits = c .before .before .before .s .given })) at (c .before .before .read-stamp .ensures)), c .enum-told .given .1)
+returns-3 c =
+    let if1 = c .before .before .before .before .before .if1 in
+    let if2 = c .before .before .before .before .if2 in
+    let found = c .before .before .before .s in
+    rw (
+      lt-ltb _ _ (if1 .left),
+      lt-ltb _ _ (if2 .left),
+      sym
+          (rw (toZ-ofZ w32 _ (record { sfits = found .given })) at (c .before .before .read-stamp .ensures)),
+      c .enum-told .given .1,
+    )
 
 returns-4 : tie.Need-returns-4
 unfolding read needSlot seen need tells
-returns-4 c = rw (lt-ltb _ _ (c .before .before .before .before .before .before .before .before .before .if1 .left), lt-ltb _ _ (c .before .before .before .before .before .before .before .before .if2 .left), sym (rw (toZ-ofZ w32 _ (record { sfits = c .before .before .before .before .before .before .before .s .given })) at (c .before .before .before .before .before .before .read-stamp .ensures)), c .before .before .before .before .stamp .given .1)
+returns-4 c =
+    let s = c .before .before .before .before .before .before .before .before .before .before .before in
+    let if1 = c .before .before .before .before .before .before .before .before .before .if1 in
+    let if2 = c .before .before .before .before .before .before .before .before .if2 in
+    let found = c .before .before .before .before .before .before .before .s in
+    let read-stamp = c .before .before .before .before .before .before .read-stamp in
+    let stamp = c .before .before .before .before .stamp in
+    rw (
+      lt-ltb _ _ (if1 .left),
+      lt-ltb _ _ (if2 .left),
+      sym
+          (rw (toZ-ofZ w32 _ (record { sfits = found .given })) at (read-stamp .ensures)),
+      stamp .given .1,
+      part-at
+          (now (s .args .tuples)) 0 2048 (4 * s .args .bucket + s .args .slot) 0 (lt-slot (if1 .left) (if2 .left)),
+      zero-add (4 * s .args .bucket + s .args .slot),
+      part-at (now (s .args .tuples)) TUPLE-XS 2048
+          (4 * s .args .bucket + s .args .slot) 0 (lt-slot (if1 .left) (if2 .left)),
+      part-at (now (s .args .tuples))
+          TUPLE-YS 2048 (4 * s .args .bucket + s .args .slot) 0 (lt-slot (if1 .left) (if2 .left)),
+    )
 
 returns-5 : tie.Need-returns-5
 unfolding read needSlot seen need tells
-returns-5 c = rw (lt-ltb _ _ (c .before .before .before .before .before .before .before .before .before .if1 .left), lt-ltb _ _ (c .before .before .before .before .before .before .before .before .if2 .left), sym (rw (toZ-ofZ w32 _ (record { sfits = c .before .before .before .before .before .before .before .s .given })) at (c .before .before .before .before .before .before .read-stamp .ensures)), c .before .before .before .before .stamp2 .given .1)
+returns-5 c =
+    let s = c .before .before .before .before .before .before .before .before .before .before .before in
+    let if1 = c .before .before .before .before .before .before .before .before .before .if1 in
+    let if2 = c .before .before .before .before .before .before .before .before .if2 in
+    let found = c .before .before .before .before .before .before .before .s in
+    let read-stamp = c .before .before .before .before .before .before .read-stamp in
+    let stamp2 = c .before .before .before .before .stamp2 in
+    rw (
+      lt-ltb _ _ (if1 .left),
+      lt-ltb _ _ (if2 .left),
+      sym
+          (rw (toZ-ofZ w32 _ (record { sfits = found .given })) at (read-stamp .ensures)),
+      stamp2 .given .1,
+      part-at
+          (now (s .args .tuples)) 0 2048 (4 * s .args .bucket + s .args .slot) 0 (lt-slot (if1 .left) (if2 .left)),
+      zero-add (4 * s .args .bucket + s .args .slot),
+      part-at (now (s .args .tuples)) TUPLE-XS 2048
+          (4 * s .args .bucket + s .args .slot) 0 (lt-slot (if1 .left) (if2 .left)),
+      part-at (now (s .args .tuples))
+          TUPLE-YS 2048 (4 * s .args .bucket + s .args .slot) 0 (lt-slot (if1 .left) (if2 .left)),
+    )
 
 pub read-tuple-spec : {M : Type 1} → statement M
 read-tuple-spec =
@@ -106,19 +175,23 @@ read-tuple-spec =
     read-stamp-requires
     enum-told
     enum-known-stamp
-    mul-t19
-    shared-slice-read-t21
-    mul-t22
-    shared-slice-read-t24
+    mul-t17
+    shared-slice-read-t19
+    add-t20
+    mul-t21
+    shared-slice-read-t23
+    add-t24
     mul-t25
     shared-slice-read-t27
     enum-known-stamp-2
     mul-t29
     shared-slice-read-t31
-    mul-t32
-    shared-slice-read-t34
-    mul-t35
-    shared-slice-read-t37
+    add-t32
+    mul-t33
+    shared-slice-read-t35
+    add-t36
+    mul-t37
+    shared-slice-read-t39
     returns-3
     returns-4
     returns-5)

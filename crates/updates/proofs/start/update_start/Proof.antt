@@ -1,35 +1,53 @@
 -- update_start does what `updateStart` says: one law of Steps.antt for each return, on the tables that were lent.
 use mathlib.Core.Path.{_≡_, sym, _∙_}
-use mathlib.Core.Bool.{Bool}
+use mathlib.Core.Bool.{Bool, true}
+use native.Mathlib.Omega.{arith}
 use borrow.Author.Tests.{not-true, not-false}
 use denote.Ref.{now}
-use Rattle.base.specs.Answer.{changed-corrupt, changed-done}
-use Rattle.index.specs.Index.{insert}
+use lib.ListN.{length}
+use Rattle.words.specs.Map.{WORDS, TIMES}
 use Rattle.tables.specs.Tables.{Tables, rightLengths}
-use Rattle.tables.proofs.Sized.{lengths}
-use Rattle.calls.specs.Call.{gridTables}
-use Rattle.updates.proofs.Steps.{start-sizes, start-lane, start-taken, start-nobody, start-off, start-full, start-spent, start-corrupt, start-done}
+use Rattle.tables.specs.Grid.{grid}
+use Rattle.tables.proofs.Grid.{grid-lengths, words-said}
+use Rattle.updates.proofs.Steps.{room-told, start-sizes, start-lane, start-taken, start-nobody, start-off, start-full, start-spent, start-corrupt, start-done}
 use borrow.Author.Needs.{needs}
 use Rattle.updates.proofs.start.update_start.Statement.{statement}
 use Rattle.updates.proofs.start.update_start.Tie as tie
+use Rattle.layout.proofs.place.on_grid.Reads as on-grid-reads
+use Rattle.tables.proofs.lengths.right_words.Reads as right-words-reads
+use Rattle.updates.proofs.lanes.is_idle.Reads as is-idle-reads
+use Rattle.updates.proofs.start.enter_there.Reads as enter-there-reads
+use Rattle.updates.proofs.start.has_room.Reads as has-room-reads
+use Rattle.tables.proofs.seek.seek_object.Reads as seek-object-reads
 
 -- the tables that were lent
 abbrev whole : tie.Start → Tables
-whole s = gridTables (now (s .args .first)) (now (s .args .cells)) (now (s .args .count)) (now (s .args .next)) (now (s .args .readers)) (now (s .args .owners)) (now (s .args .xs)) (now (s .args .ys)) (now (s .args .times)) (now (s .args .oids)) (now (s .args .locks)) (now (s .args .current)) (now (s .args .previous)) (now (s .args .pool)) (now (s .args .hits)) (now (s .args .hitxs)) (now (s .args .hitys)) (now (s .args .clock))
+whole s = grid (now (s .args .words)) (now (s .args .times))
 
--- what right_all answered is what `rightLengths` says of them
-sized : (c : tie.After-right-all) {b : Bool} → c .right-all .result ≡ b → rightLengths (whole (c .before .before .before .before .before .before .before .before .before .before .before .before .before .before .before .before .before)) ≡ b
-unfolding rightLengths
-sized c e = sym (c .right-all .ensures) ∙ e
+-- what right_words answered is what `rightLengths` says of them, and of the two lists
+sized : (c : tie.After-right-words) {b : Bool} → c .right-words .result ≡ b → rightLengths (whole (c .before .before)) ≡ b
+sized c e =
+    let s = c .before .before in
+    sym (grid-lengths (now (s .args .words)) (now (s .args .times))) ∙ sym (c .right-words .ensures) ∙ e
 
-right-all-requires : tie.Need-right-all-requires
-right-all-requires c κs = search needs
+lent : (c : tie.After-right-words) → c .right-words .result ≡ true → (length (now (c .before .before .args .words)) ≡ WORDS) × (length (now (c .before .before .args .times)) ≡ TIMES)
+lent c e =
+    let s = c .before .before in
+    words-said (now (s .args .words)) (now (s .args .times)) (sized c e)
+
+right-words-requires : tie.Need-right-words-requires
+right-words-requires c κs = search needs
 
 returns : tie.Need-returns
-returns c = start-sizes (whole (c .before .before .before .before .before .before .before .before .before .before .before .before .before .before .before .before .before .before)) _ _ _ _ _ (sized (c .before) (not-true (c .before .right-all .result) (c .if1 .taken)))
+returns c =
+    start-sizes (whole (c .before .before .before)) _ _ _ _ _
+    (sized (c .before) (not-true (c .before .right-words .result) (c .if1 .taken)))
 
 returns-2 : tie.Need-returns-2
-returns-2 c = start-lane (whole (c .before .before .before .before .before .before .before .before .before .before .before .before .before .before .before .before .before .before .before)) _ _ _ _ _ (sized (c .before .before) (not-false (c .before .before .right-all .result) (c .before .if1 .left))) (c .if2 .taken)
+returns-2 c =
+    start-lane (whole (c .before .before .before .before)) _ _ _ _ _
+    (sized (c .before .before) (not-false (c .before .before .right-words .result) (c .before .if1 .left)))
+    (c .if2 .taken)
 
 mul-u : tie.Need-mul-u
 mul-u c = search needs
@@ -41,36 +59,111 @@ is-idle-requires : tie.Need-is-idle-requires
 is-idle-requires c κs = search needs
 
 returns-3 : tie.Need-returns-3
-returns-3 c = start-taken (whole (c .before .before .before .before .before .before .before .before .before .before .before .before .before .before .before .before .before .before .before .before .before .before)) _ _ _ _ _ (sized (c .before .before .before .before .before) (not-false (c .before .before .before .before .before .right-all .result) (c .before .before .before .before .if1 .left))) (c .before .before .before .if2 .left) (sym (c .before .is-idle .ensures) ∙ not-true (c .before .is-idle .result) (c .if3 .taken))
+returns-3 c =
+    let right-words = c .before .before .before .before .before .right-words in
+    let if1 = c .before .before .before .before .if1 in
+    let if2 = c .before .before .before .if2 in
+    start-taken (whole (c .before .before .before .before .before .before .before)) _ _ _ _ _
+    (sized (c .before .before .before .before .before) (not-false (right-words .result) (if1 .left)))
+    (if2 .left) (sym (c .before .is-idle .ensures) ∙ not-true (c .before .is-idle .result) (c .if3 .taken))
 
 returns-4 : tie.Need-returns-4
-returns-4 c = start-nobody (whole (c .before .before .before .before .before .before .before .before .before .before .before .before .before .before .before .before .before .before .before .before .before .before .before)) _ _ _ _ _ (sized (c .before .before .before .before .before .before) (not-false (c .before .before .before .before .before .before .right-all .result) (c .before .before .before .before .before .if1 .left))) (c .before .before .before .before .if2 .left) (sym (c .before .before .is-idle .ensures) ∙ not-false (c .before .before .is-idle .result) (c .before .if3 .left)) (c .if4 .taken)
+returns-4 c =
+    let right-words = c .before .before .before .before .before .before .right-words in
+    let if1 = c .before .before .before .before .before .if1 in
+    let if2 = c .before .before .before .before .if2 in
+    start-nobody (whole (c .before .before .before .before .before .before .before .before)) _ _ _ _ _
+    (sized (c .before .before .before .before .before .before) (not-false (right-words .result) (if1 .left)))
+    (if2 .left) (sym (c .before .before .is-idle .ensures) ∙ not-false (c .before .before .is-idle .result)
+    (c .before .if3 .left)) (c .if4 .taken)
 
 on-grid-requires : tie.Need-on-grid-requires
 on-grid-requires c κs = search needs
 
 returns-5 : tie.Need-returns-5
-returns-5 c = start-off (whole (c .before .before .before .before .before .before .before .before .before .before .before .before .before .before .before .before .before .before .before .before .before .before .before .before .before)) _ _ _ _ _ (sized (c .before .before .before .before .before .before .before .before) (not-false (c .before .before .before .before .before .before .before .before .right-all .result) (c .before .before .before .before .before .before .before .if1 .left))) (c .before .before .before .before .before .before .if2 .left) (sym (c .before .before .before .before .is-idle .ensures) ∙ not-false (c .before .before .before .before .is-idle .result) (c .before .before .before .if3 .left)) (c .before .before .if4 .left) (sym (c .before .on-grid .ensures) ∙ not-true (c .before .on-grid .result) (c .if5 .taken))
+returns-5 c =
+    let right-words = c .before .before .before .before .before .before .before .before .right-words in
+    let if1 = c .before .before .before .before .before .before .before .if1 in
+    let if2 = c .before .before .before .before .before .before .if2 in
+    let is-idle = c .before .before .before .before .is-idle in
+    let if3 = c .before .before .before .if3 in
+    start-off (whole (c .before .before .before .before .before .before .before .before .before .before)) _ _ _ _ _
+    (sized (c .before .before .before .before .before .before .before .before)
+    (not-false (right-words .result) (if1 .left))) (if2 .left)
+    (sym (is-idle .ensures) ∙ not-false (is-idle .result) (if3 .left)) (c .before .before .if4 .left)
+    (sym (c .before .on-grid .ensures) ∙ not-true (c .before .on-grid .result) (c .if5 .taken))
+
+seek-object-requires : tie.Need-seek-object-requires
+seek-object-requires c κs =
+    let right-words = c .before .before .before .before .before .before .before .before .before .right-words in
+    let if1 = c .before .before .before .before .before .before .before .before .if1 in
+    (lent (c .before .before .before .before .before .before .before .before .before)
+    (not-false (right-words .result) (if1 .left))) .0
 
 has-room-requires : tie.Need-has-room-requires
-has-room-requires c κs = lengths (whole (c .before .before .before .before .before .before .before .before .before .before .before .before .before .before .before .before .before .before .before .before .before .before .before .before .before .before)) (sized (c .before .before .before .before .before .before .before .before .before) (not-false (c .before .before .before .before .before .before .before .before .before .right-all .result) (c .before .before .before .before .before .before .before .before .if1 .left))) .oids
+has-room-requires c κs =
+    let right-words = c .before .before .before .before .before .before .before .before .before .before .before .right-words in
+    let if1 = c .before .before .before .before .before .before .before .before .before .before .if1 in
+    (lent (c .before .before .before .before .before .before .before .before .before .before .before)
+    (not-false (right-words .result) (if1 .left))) .0
 
 same-length : tie.Need-same-length
 same-length c = search needs
 
 returns-6 : tie.Need-returns-6
-returns-6 c = start-full (whole (c .before .before .before .before .before .before .before .before .before .before .before .before .before .before .before .before .before .before .before .before .before .before .before .before .before .before .before .before)) _ _ _ _ _ (sized (c .before .before .before .before .before .before .before .before .before .before .before) (not-false (c .before .before .before .before .before .before .before .before .before .before .before .right-all .result) (c .before .before .before .before .before .before .before .before .before .before .if1 .left))) (c .before .before .before .before .before .before .before .before .before .if2 .left) (sym (c .before .before .before .before .before .before .before .is-idle .ensures) ∙ not-false (c .before .before .before .before .before .before .before .is-idle .result) (c .before .before .before .before .before .before .if3 .left)) (c .before .before .before .before .before .if4 .left) (sym (c .before .before .before .before .on-grid .ensures) ∙ not-false (c .before .before .before .before .on-grid .result) (c .before .before .before .if5 .left)) (sym (c .before .has-room .ensures) ∙ not-true (c .before .has-room .result) (c .if6 .taken))
+returns-6 c =
+    let s = c .before .before .before .before .before .before .before .before .before .before .before .before .before .before .before in
+    let right-words = c .before .before .before .before .before .before .before .before .before .before .before .before .before .right-words in
+    let if1 = c .before .before .before .before .before .before .before .before .before .before .before .before .if1 in
+    let if2 = c .before .before .before .before .before .before .before .before .before .before .before .if2 in
+    let is-idle = c .before .before .before .before .before .before .before .before .before .is-idle in
+    let if3 = c .before .before .before .before .before .before .before .before .if3 in
+    let if4 = c .before .before .before .before .before .before .before .if4 in
+    let on-grid = c .before .before .before .before .before .before .on-grid in
+    let if5 = c .before .before .before .before .before .if5 in
+    let seek-object = c .before .before .before .seek-object in
+    start-full (whole
+    (c .before .before .before .before .before .before .before .before .before .before .before .before .before .before .before)) _ _ _ _ _ (sized (c .before .before .before .before .before .before .before .before .before .before .before .before .before) (not-false (right-words .result) (if1 .left))) (if2 .left) (sym (is-idle .ensures) ∙ not-false (is-idle .result) (if3 .left)) (if4 .left) (sym (on-grid .ensures) ∙ not-false (on-grid .result) (if5 .left)) (room-told (whole (c .before .before .before .before .before .before .before .before .before .before .before .before .before .before .before)) _ (seek-object .result) (seek-object .ensures (now (s .args .times))) (c .before .has-room .ensures (now (s .args .times)) ∙ not-true (c .before .has-room .result) (c .if6 .taken)))
+
+slice-read-if7 : tie.Need-slice-read-if7
+slice-read-if7 c =
+    let right-words = c .before .before .before .before .before .before .before .before .before .before .before .before .before .before .right-words in
+    let if1 = c .before .before .before .before .before .before .before .before .before .before .before .before .before .if1 in
+    omega (
+      arith,
+      (lent
+          (c .before .before .before .before .before .before .before .before .before .before .before .before .before .before) (not-false (right-words .result) (if1 .left))) .0,
+    )
 
 same-length-2 : tie.Need-same-length-2
 same-length-2 c = search needs
 
 returns-7 : tie.Need-returns-7
-returns-7 c = start-spent (whole (c .before .before .before .before .before .before .before .before .before .before .before .before .before .before .before .before .before .before .before .before .before .before .before .before .before .before .before .before .before .before)) _ _ _ _ _ (sized (c .before .before .before .before .before .before .before .before .before .before .before .before .before) (not-false (c .before .before .before .before .before .before .before .before .before .before .before .before .before .right-all .result) (c .before .before .before .before .before .before .before .before .before .before .before .before .if1 .left))) (c .before .before .before .before .before .before .before .before .before .before .before .if2 .left) (sym (c .before .before .before .before .before .before .before .before .before .is-idle .ensures) ∙ not-false (c .before .before .before .before .before .before .before .before .before .is-idle .result) (c .before .before .before .before .before .before .before .before .if3 .left)) (c .before .before .before .before .before .before .before .if4 .left) (sym (c .before .before .before .before .before .before .on-grid .ensures) ∙ not-false (c .before .before .before .before .before .before .on-grid .result) (c .before .before .before .before .before .if5 .left)) (sym (c .before .before .before .has-room .ensures) ∙ not-false (c .before .before .before .has-room .result) (c .before .before .if6 .left)) (c .if7 .taken)
+unfolding grid
+returns-7 c =
+    let s = c .before .before .before .before .before .before .before .before .before .before .before .before .before .before .before .before .before in
+    let right-words = c .before .before .before .before .before .before .before .before .before .before .before .before .before .before .before .right-words in
+    let if1 = c .before .before .before .before .before .before .before .before .before .before .before .before .before .before .if1 in
+    let if2 = c .before .before .before .before .before .before .before .before .before .before .before .before .before .if2 in
+    let is-idle = c .before .before .before .before .before .before .before .before .before .before .before .is-idle in
+    let if3 = c .before .before .before .before .before .before .before .before .before .before .if3 in
+    let if4 = c .before .before .before .before .before .before .before .before .before .if4 in
+    let on-grid = c .before .before .before .before .before .before .before .before .on-grid in
+    let if5 = c .before .before .before .before .before .before .before .if5 in
+    let seek-object = c .before .before .before .before .before .seek-object in
+    let has-room = c .before .before .before .has-room in
+    start-spent (whole
+    (c .before .before .before .before .before .before .before .before .before .before .before .before .before .before .before .before .before)) _ _ _ _ _ (sized (c .before .before .before .before .before .before .before .before .before .before .before .before .before .before .before) (not-false (right-words .result) (if1 .left))) (if2 .left) (sym (is-idle .ensures) ∙ not-false (is-idle .result) (if3 .left)) (if4 .left) (sym (on-grid .ensures) ∙ not-false (on-grid .result) (if5 .left)) (room-told (whole (c .before .before .before .before .before .before .before .before .before .before .before .before .before .before .before .before .before)) _ (seek-object .result) (seek-object .ensures (now (s .args .times))) (has-room .ensures (now (s .args .times)) ∙ not-false (has-room .result) (c .before .before .if6 .left))) (c .if7 .taken)
 
-enter-object-requires : tie.Need-enter-object-requires
-enter-object-requires c κs =
-    let L = lengths (whole (c .before .before .before .before .before .before .before .before .before .before .before .before .before .before .before .before .before .before .before .before .before .before .before .before .before .before .before .before .before .before .before .before .before .before)) (sized (c .before .before .before .before .before .before .before .before .before .before .before .before .before .before .before .before .before) (not-false (c .before .before .before .before .before .before .before .before .before .before .before .before .before .before .before .before .before .right-all .result) (c .before .before .before .before .before .before .before .before .before .before .before .before .before .before .before .before .if1 .left))) in
-    (L .oids, L .locks, L .current, L .previous)
+enter-there-requires : tie.Need-enter-there-requires
+enter-there-requires c κs =
+    let right-words = c .before .before .before .before .before .before .before .before .before .before .before .before .before .before .before .before .right-words in
+    let if1 = c .before .before .before .before .before .before .before .before .before .before .before .before .before .before .before .if1 in
+    let seek-object = c .before .before .before .before .before .before .seek-object in (
+      (lent
+          (c .before .before .before .before .before .before .before .before .before .before .before .before .before .before .before .before) (not-false (right-words .result) (if1 .left))) .0,
+      seek-object .ensures,
+    )
 
 enum-told : tie.Need-enum-told
 enum-told c = search needs
@@ -81,19 +174,25 @@ enum-told-2 c = search needs
 same-length-3 : tie.Need-same-length-3
 same-length-3 c = search needs
 
-same-length-4 : tie.Need-same-length-4
-same-length-4 c = search needs
-
-same-length-5 : tie.Need-same-length-5
-same-length-5 c = search needs
-
-same-length-6 : tie.Need-same-length-6
-same-length-6 c = search needs
-
 returns-8 : tie.Need-returns-8
+unfolding grid
 returns-8 c =
-    let e = changed-corrupt _ _ (insert _ _) (c .before .before .before .before .before .before .before .before .before .before .enter-object .ensures) (c .enum-told2 .given .1) in
-    start-corrupt (whole (c .before .before .before .before .before .before .before .before .before .before .before .before .before .before .before .before .before .before .before .before .before .before .before .before .before .before .before .before .before .before .before .before .before .before .before .before .before .before .before .before .before .before .before .before .before)) _ _ _ _ _ (sized (c .before .before .before .before .before .before .before .before .before .before .before .before .before .before .before .before .before .before .before .before .before .before .before .before .before .before .before .before) (not-false (c .before .before .before .before .before .before .before .before .before .before .before .before .before .before .before .before .before .before .before .before .before .before .before .before .before .before .before .before .right-all .result) (c .before .before .before .before .before .before .before .before .before .before .before .before .before .before .before .before .before .before .before .before .before .before .before .before .before .before .before .if1 .left))) (c .before .before .before .before .before .before .before .before .before .before .before .before .before .before .before .before .before .before .before .before .before .before .before .before .before .before .if2 .left) (sym (c .before .before .before .before .before .before .before .before .before .before .before .before .before .before .before .before .before .before .before .before .before .before .before .before .is-idle .ensures) ∙ not-false (c .before .before .before .before .before .before .before .before .before .before .before .before .before .before .before .before .before .before .before .before .before .before .before .before .is-idle .result) (c .before .before .before .before .before .before .before .before .before .before .before .before .before .before .before .before .before .before .before .before .before .before .before .if3 .left)) (c .before .before .before .before .before .before .before .before .before .before .before .before .before .before .before .before .before .before .before .before .before .before .if4 .left) (sym (c .before .before .before .before .before .before .before .before .before .before .before .before .before .before .before .before .before .before .before .before .before .on-grid .ensures) ∙ not-false (c .before .before .before .before .before .before .before .before .before .before .before .before .before .before .before .before .before .before .before .before .before .on-grid .result) (c .before .before .before .before .before .before .before .before .before .before .before .before .before .before .before .before .before .before .before .before .if5 .left)) (sym (c .before .before .before .before .before .before .before .before .before .before .before .before .before .before .before .before .before .before .has-room .ensures) ∙ not-false (c .before .before .before .before .before .before .before .before .before .before .before .before .before .before .before .before .before .before .has-room .result) (c .before .before .before .before .before .before .before .before .before .before .before .before .before .before .before .before .before .if6 .left)) (c .before .before .before .before .before .before .before .before .before .before .before .before .before .before .before .if7 .left) _ (e .0) (e .1)
+    let s = c .before .before .before .before .before .before .before .before .before .before .before .before .before .before .before .before .before .before .before .before .before .before .before in
+    let right-words = c .before .before .before .before .before .before .before .before .before .before .before .before .before .before .before .before .before .before .before .before .before .right-words in
+    let if1 = c .before .before .before .before .before .before .before .before .before .before .before .before .before .before .before .before .before .before .before .before .if1 in
+    let if2 = c .before .before .before .before .before .before .before .before .before .before .before .before .before .before .before .before .before .before .before .if2 in
+    let is-idle = c .before .before .before .before .before .before .before .before .before .before .before .before .before .before .before .before .before .is-idle in
+    let if3 = c .before .before .before .before .before .before .before .before .before .before .before .before .before .before .before .before .if3 in
+    let if4 = c .before .before .before .before .before .before .before .before .before .before .before .before .before .before .before .if4 in
+    let on-grid = c .before .before .before .before .before .before .before .before .before .before .before .before .before .before .on-grid in
+    let if5 = c .before .before .before .before .before .before .before .before .before .before .before .before .before .if5 in
+    let seek-object = c .before .before .before .before .before .before .before .before .before .before .before .seek-object in
+    let has-room = c .before .before .before .before .before .before .before .before .before .has-room in
+    let if6 = c .before .before .before .before .before .before .before .before .if6 in
+    let if7 = c .before .before .before .before .before .before .if7 in
+    let enter-there = c .before .before .before .before .enter-there in
+    start-corrupt (whole
+    (c .before .before .before .before .before .before .before .before .before .before .before .before .before .before .before .before .before .before .before .before .before .before .before)) _ _ _ _ _ (sized (c .before .before .before .before .before .before .before .before .before .before .before .before .before .before .before .before .before .before .before .before .before) (not-false (right-words .result) (if1 .left))) (if2 .left) (sym (is-idle .ensures) ∙ not-false (is-idle .result) (if3 .left)) (if4 .left) (sym (on-grid .ensures) ∙ not-false (on-grid .result) (if5 .left)) (room-told (whole (c .before .before .before .before .before .before .before .before .before .before .before .before .before .before .before .before .before .before .before .before .before .before .before)) _ (seek-object .result) (seek-object .ensures (now (s .args .times))) (has-room .ensures (now (s .args .times)) ∙ not-false (has-room .result) (if6 .left))) (if7 .left) (enter-there .result) _ (enter-there .ensures (now (s .args .times))) (c .enum-told2 .given .1)
 
 mul-next : tie.Need-mul-next
 mul-next c = search needs
@@ -101,26 +200,34 @@ mul-next c = search needs
 array-set-from-next : tie.Need-array-set-from-next
 array-set-from-next c = search needs
 
-same-length-7 : tie.Need-same-length-7
-same-length-7 c = search needs
-
-same-length-8 : tie.Need-same-length-8
-same-length-8 c = search needs
-
-same-length-9 : tie.Need-same-length-9
-same-length-9 c = search needs
-
-same-length-10 : tie.Need-same-length-10
-same-length-10 c = search needs
+same-length-4 : tie.Need-same-length-4
+same-length-4 c = search needs
 
 returns-9 : tie.Need-returns-9
-returns-9 c = start-done (whole (c .before .before .before .before .before .before .before .before .before .before .before .before .before .before .before .before .before .before .before .before .before .before .before .before .before .before .before .before .before .before .before .before .before .before .before .before .before .before .before .before .before .before .before .before .before)) _ _ _ _ _ (sized (c .before .before .before .before .before .before .before .before .before .before .before .before .before .before .before .before .before .before .before .before .before .before .before .before .before .before .before .before) (not-false (c .before .before .before .before .before .before .before .before .before .before .before .before .before .before .before .before .before .before .before .before .before .before .before .before .before .before .before .before .right-all .result) (c .before .before .before .before .before .before .before .before .before .before .before .before .before .before .before .before .before .before .before .before .before .before .before .before .before .before .before .if1 .left))) (c .before .before .before .before .before .before .before .before .before .before .before .before .before .before .before .before .before .before .before .before .before .before .before .before .before .before .if2 .left) (sym (c .before .before .before .before .before .before .before .before .before .before .before .before .before .before .before .before .before .before .before .before .before .before .before .before .is-idle .ensures) ∙ not-false (c .before .before .before .before .before .before .before .before .before .before .before .before .before .before .before .before .before .before .before .before .before .before .before .before .is-idle .result) (c .before .before .before .before .before .before .before .before .before .before .before .before .before .before .before .before .before .before .before .before .before .before .before .if3 .left)) (c .before .before .before .before .before .before .before .before .before .before .before .before .before .before .before .before .before .before .before .before .before .before .if4 .left) (sym (c .before .before .before .before .before .before .before .before .before .before .before .before .before .before .before .before .before .before .before .before .before .on-grid .ensures) ∙ not-false (c .before .before .before .before .before .before .before .before .before .before .before .before .before .before .before .before .before .before .before .before .before .on-grid .result) (c .before .before .before .before .before .before .before .before .before .before .before .before .before .before .before .before .before .before .before .before .if5 .left)) (sym (c .before .before .before .before .before .before .before .before .before .before .before .before .before .before .before .before .before .before .has-room .ensures) ∙ not-false (c .before .before .before .before .before .before .before .before .before .before .before .before .before .before .before .before .before .before .has-room .result) (c .before .before .before .before .before .before .before .before .before .before .before .before .before .before .before .before .before .if6 .left)) (c .before .before .before .before .before .before .before .before .before .before .before .before .before .before .before .if7 .left) _ (changed-done _ _ (insert _ _) (c .before .before .before .before .before .before .before .before .before .before .enter-object .ensures) (c .enum-told .given .1))
+unfolding grid
+returns-9 c =
+    let s = c .before .before .before .before .before .before .before .before .before .before .before .before .before .before .before .before .before .before .before .before .before .before .before in
+    let right-words = c .before .before .before .before .before .before .before .before .before .before .before .before .before .before .before .before .before .before .before .before .before .right-words in
+    let if1 = c .before .before .before .before .before .before .before .before .before .before .before .before .before .before .before .before .before .before .before .before .if1 in
+    let if2 = c .before .before .before .before .before .before .before .before .before .before .before .before .before .before .before .before .before .before .before .if2 in
+    let is-idle = c .before .before .before .before .before .before .before .before .before .before .before .before .before .before .before .before .before .is-idle in
+    let if3 = c .before .before .before .before .before .before .before .before .before .before .before .before .before .before .before .before .if3 in
+    let if4 = c .before .before .before .before .before .before .before .before .before .before .before .before .before .before .before .if4 in
+    let on-grid = c .before .before .before .before .before .before .before .before .before .before .before .before .before .before .on-grid in
+    let if5 = c .before .before .before .before .before .before .before .before .before .before .before .before .before .if5 in
+    let seek-object = c .before .before .before .before .before .before .before .before .before .before .before .seek-object in
+    let has-room = c .before .before .before .before .before .before .before .before .before .has-room in
+    let if6 = c .before .before .before .before .before .before .before .before .if6 in
+    let if7 = c .before .before .before .before .before .before .if7 in
+    let enter-there = c .before .before .before .before .enter-there in
+    start-done (whole
+    (c .before .before .before .before .before .before .before .before .before .before .before .before .before .before .before .before .before .before .before .before .before .before .before)) _ _ _ _ _ (sized (c .before .before .before .before .before .before .before .before .before .before .before .before .before .before .before .before .before .before .before .before .before) (not-false (right-words .result) (if1 .left))) (if2 .left) (sym (is-idle .ensures) ∙ not-false (is-idle .result) (if3 .left)) (if4 .left) (sym (on-grid .ensures) ∙ not-false (on-grid .result) (if5 .left)) (room-told (whole (c .before .before .before .before .before .before .before .before .before .before .before .before .before .before .before .before .before .before .before .before .before .before .before)) _ (seek-object .result) (seek-object .ensures (now (s .args .times))) (has-room .ensures (now (s .args .times)) ∙ not-false (has-room .result) (if6 .left))) (if7 .left) (enter-there .result) _ (enter-there .ensures (now (s .args .times))) (c .enum-told .given .1)
 
 pub update-start-spec : {M : Type 1} → statement M
 update-start-spec =
     tie.close
     (tie.spec
-    right-all-requires
+    right-words-requires
     returns
     returns-2
     mul-u
@@ -130,23 +237,19 @@ update-start-spec =
     returns-4
     on-grid-requires
     returns-5
+    seek-object-requires
     has-room-requires
     same-length
     returns-6
+    slice-read-if7
     same-length-2
     returns-7
-    enter-object-requires
+    enter-there-requires
     enum-told
     enum-told-2
     same-length-3
-    same-length-4
-    same-length-5
-    same-length-6
     returns-8
     mul-next
     array-set-from-next
-    same-length-7
-    same-length-8
-    same-length-9
-    same-length-10
+    same-length-4
     returns-9)

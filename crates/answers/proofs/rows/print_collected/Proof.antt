@@ -1,0 +1,88 @@
+-- print_collected prints `collectedLine`: its numbers one behind the other. Each call has room, since the digits of a number are few.
+use native.Mathlib.Omega.{arith}
+use Rattle.answers.proofs.Printing.{printed-both, printed-as, closed-32, closed-64, collected-parts}
+use borrow.Author.Needs.{needs}
+use Rattle.answers.proofs.rows.print_collected.Statement.{statement}
+use Rattle.answers.proofs.rows.print_collected.Tie as tie
+
+print-closed-requires : tie.Need-print-closed-requires
+print-closed-requires c κs =
+    let s = c .before .before in
+    omega (arith, s .pre, closed-64 (s .args .line) 44 (search needs))
+
+print-closed-requires-2 : tie.Need-print-closed-requires-2
+print-closed-requires-2 c κs =
+    let s = c .before .before .before .before .before .before in
+    let print-closed = c .before .before .before .print-closed in
+    omega (
+      arith,
+      s .pre,
+      closed-64 (s .args .line) 44 (search needs),
+      closed-32 0 44 (omega arith),
+      print-closed .ensures .behind,
+      print-closed .kept .0,
+    )
+
+print-closed-requires-3 : tie.Need-print-closed-requires-3
+print-closed-requires-3 c κs =
+    let s = c .before .before .before .before .before .before .before .before .before .before in
+    let print-closed = c .before .before .before .before .before .before .before .print-closed in
+    let print-closed2 = c .before .before .before .print-closed2 in
+    omega (
+      arith,
+      s .pre,
+      closed-64 (s .args .line) 44 (search needs),
+      closed-32 0 44 (omega arith),
+      closed-32
+          (s .args .steps) 44 (search needs),
+      print-closed .ensures .behind,
+      print-closed .kept .0,
+      print-closed2 .ensures .behind,
+      print-closed2 .kept .0,
+    )
+
+print-closed-requires-4 : tie.Need-print-closed-requires-4
+print-closed-requires-4 c κs =
+    let s = c .before .before .before .before .before .before .before .before .before .before .before .before .before .before in
+    let print-closed = c .before .before .before .before .before .before .before .before .before .before .before .print-closed in
+    let print-closed2 = c .before .before .before .before .before .before .before .print-closed2 in
+    let print-closed3 = c .before .before .before .print-closed3 in
+    omega (
+      arith,
+      s .pre,
+      closed-64 (s .args .line) 44 (search needs),
+      closed-32 0 44 (omega arith),
+      closed-32
+          (s .args .steps) 44 (search needs),
+      closed-32 (s .args .entries) 10 (search needs),
+      print-closed .ensures .behind,
+      print-closed .kept .0,
+      print-closed2 .ensures .behind,
+      print-closed2 .kept .0,
+      print-closed3 .ensures .behind,
+      print-closed3 .kept .0,
+    )
+
+same-length : tie.Need-same-length
+same-length c = search needs
+
+returns : tie.Need-returns
+returns c =
+    let s = c .before .before .before .before .before .before .before .before .before .before .before .before .before .before .before .before .before in
+    let print-closed = c .before .before .before .before .before .before .before .before .before .before .before .before .before .before .print-closed in
+    let print-closed2 = c .before .before .before .before .before .before .before .before .before .before .print-closed2 in
+    let print-closed3 = c .before .before .before .before .before .before .print-closed3 in
+    printed-as (collected-parts (s .args .line) (s .args .steps) (s .args .entries))
+    (printed-both (print-closed .ensures) (printed-both (print-closed2 .ensures)
+    (printed-both (print-closed3 .ensures) (c .before .before .print-closed4 .ensures))))
+
+pub print-collected-spec : {M : Type 1} → statement M
+print-collected-spec =
+    tie.close
+    (tie.spec
+    print-closed-requires
+    print-closed-requires-2
+    print-closed-requires-3
+    print-closed-requires-4
+    same-length
+    returns)
