@@ -58,10 +58,10 @@ same-length-2 c = search needs
 returns-2 : tie.Need-returns-2
 unfolding freeObject atEntry
 returns-2 c =
-    let s = c .before .before .before .before .before .before .before .before .before .before .before in
-    let find-object = c .before .before .before .before .before .before .before .find-object in
-    let found = c .before .before .before .before .before .s in
-    rw (sought _ _ _ (find-object .ensures) (found .given .1))
+    let at-s = c .before .before .before .before .before in
+    let at-find-object = at-s .before .before in
+    let s = at-find-object .before .before .before .before in
+    rw (sought _ _ _ (at-find-object .find-object .ensures) (at-s .s .given .1))
     (locks-on (now (s .args .index)) (s .pre) _ _ (c .before .before .release-lock .last .0)
     (c .before .before .release-lock .kept .0 ∙ (part-length (now (s .args .index)) COUNT 512
     (omega (arith, s .pre)))) (c .before .before .release-lock .ensures))

@@ -40,11 +40,12 @@ same-length c = search needs
 
 returns-2 : tie.Need-returns-2
 returns-2 c ts =
-    let s = c .before .before .before .before .before .before .before .before in
-    let free-object = c .before .before .before .before .free-object in
-    back-kept (now (s .args .words)) ts (s .pre) (s .args .place) (s .args .oid) (free-object .last .0)
-    (free-object .kept .0 ∙ (part-length (now (s .args .words)) INDEX INDEX-SIZE (omega (arith, s .pre))))
-    (free-object .ensures) (c .enum-told2 .given .1)
+    let at-free-object = c .before .before .before .before in
+    let s = at-free-object .before .before .before .before in
+    back-kept (now (s .args .words)) ts (s .pre) (s .args .place) (s .args .oid)
+    (at-free-object .free-object .last .0) (at-free-object .free-object .kept .0 ∙
+    (part-length (now (s .args .words)) INDEX INDEX-SIZE (omega (arith, s .pre))))
+    (at-free-object .free-object .ensures) (c .enum-told2 .given .1)
 
 sub-cells : tie.Need-sub-cells
 sub-cells c = search needs
@@ -69,13 +70,14 @@ same-length-2 c = search needs
 
 returns-3 : tie.Need-returns-3
 returns-3 c ts =
-    let s = c .before .before .before .before .before .before .before .before .before .before .before in
-    let if1 = c .before .before .before .before .before .before .before .before .before .if1 in
-    let free-object = c .before .before .before .before .before .before .before .free-object in
-    let enum-told = c .before .before .before .enum-told in
-    back-freed (now (s .args .words)) ts (s .pre) (s .args .place) (s .args .oid) (free-object .last .0)
-    (free-object .kept .0 ∙ (part-length (now (s .args .words)) INDEX INDEX-SIZE (omega (arith, s .pre))))
-    (free-object .ensures) (enum-told .given .1) (if1 .left)
+    let at-enum-told = c .before .before .before in
+    let at-free-object = at-enum-told .before .before .before .before in
+    let at-if1 = at-free-object .before .before in
+    let s = at-if1 .before .before in
+    back-freed (now (s .args .words)) ts (s .pre) (s .args .place) (s .args .oid)
+    (at-free-object .free-object .last .0) (at-free-object .free-object .kept .0 ∙
+    (part-length (now (s .args .words)) INDEX INDEX-SIZE (omega (arith, s .pre))))
+    (at-free-object .free-object .ensures) (at-enum-told .enum-told .given .1) (at-if1 .if1 .left)
 
 pub go-back-spec : {M : Type 1} → statement M
 go-back-spec =

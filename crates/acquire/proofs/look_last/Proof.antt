@@ -34,10 +34,10 @@ same-length-2 c = search needs
 
 returns-2 : tie.Need-returns-2
 returns-2 c ts =
-    let s = c .before .before .before .before .before .before .before in
-    let last-tuple = c .before .before .before .before .last-tuple in
+    let at-last-tuple = c .before .before .before .before in
+    let s = at-last-tuple .before .before .before in
     look-own (grid (now (s .args .words)) ts) (s .args .place) (s .args .oid) (s .args .owner)
-    (c .before .before .l .given .0 .0) (last-at (last _ _ _ _) _ (last-tuple .ensures ts) _
+    (c .before .before .l .given .0 .0) (last-at (last _ _ _ _) _ (at-last-tuple .last-tuple .ensures ts) _
     (c .before .before .l .given .1)) (c .if1 .taken)
 
 lock-other-requires : tie.Need-lock-other-requires
@@ -60,44 +60,46 @@ same-length-3 c = search needs
 
 returns-3 : tie.Need-returns-3
 returns-3 c ts =
-    let s = c .before .before .before .before .before .before .before .before .before .before .before .before .before in
-    let last-tuple = c .before .before .before .before .before .before .before .before .before .before .last-tuple in
-    let l = c .before .before .before .before .before .before .before .before .l in
-    let if1 = c .before .before .before .before .before .before .if1 in
-    let lock-other = c .before .before .before .before .lock-other in
-    look-lost (grid (now (s .args .words)) ts) (s .args .place) (s .args .oid) (s .args .owner) (l .given .0 .0)
-    (last-at (last _ _ _ _) _ (last-tuple .ensures ts) _ (l .given .1)) (if1 .left)
-    (grid (lock-other .last .0) ts) (lock-other .ensures ts) (c .enum-told2 .given .1)
+    let at-lock-other = c .before .before .before .before in
+    let at-if1 = at-lock-other .before .before in
+    let at-l = at-if1 .before .before in
+    let at-last-tuple = at-l .before .before in
+    let s = at-last-tuple .before .before .before in
+    look-lost (grid (now (s .args .words)) ts) (s .args .place) (s .args .oid) (s .args .owner) (at-l .l .given .0 .0)
+    (last-at (last _ _ _ _) _ (at-last-tuple .last-tuple .ensures ts) _ (at-l .l .given .1))
+    (at-if1 .if1 .left) (grid (at-lock-other .lock-other .last .0) ts) (at-lock-other .lock-other .ensures ts)
+    (c .enum-told2 .given .1)
 
 same-length-4 : tie.Need-same-length-4
 same-length-4 c = search needs
 
 returns-4 : tie.Need-returns-4
 returns-4 c ts =
-    let s = c .before .before .before .before .before .before .before .before .before .before .before .before .before .before .before .before .before in
-    let last-tuple = c .before .before .before .before .before .before .before .before .before .before .before .before .before .before .last-tuple in
-    let l = c .before .before .before .before .before .before .before .before .before .before .before .before .l in
-    let if1 = c .before .before .before .before .before .before .before .before .before .before .if1 in
-    let lock-other = c .before .before .before .before .before .before .before .before .lock-other in
-    let enum-told3 = c .before .before .before .before .enum-told3 in
-    look-back (grid (now (s .args .words)) ts) (s .args .place) (s .args .oid) (s .args .owner) (l .given .0 .0)
-    (last-at (last _ _ _ _) _ (last-tuple .ensures ts) _ (l .given .1)) (if1 .left)
-    (grid (lock-other .last .0) ts) (lock-other .ensures ts) (enum-told3 .given .1) _ _
-    (c .before .before .go-back .ensures ts)
+    let at-enum-told3 = c .before .before .before .before in
+    let at-lock-other = at-enum-told3 .before .before .before .before in
+    let at-if1 = at-lock-other .before .before in
+    let at-l = at-if1 .before .before in
+    let at-last-tuple = at-l .before .before in
+    let s = at-last-tuple .before .before .before in
+    look-back (grid (now (s .args .words)) ts) (s .args .place) (s .args .oid) (s .args .owner) (at-l .l .given .0 .0)
+    (last-at (last _ _ _ _) _ (at-last-tuple .last-tuple .ensures ts) _ (at-l .l .given .1))
+    (at-if1 .if1 .left) (grid (at-lock-other .lock-other .last .0) ts) (at-lock-other .lock-other .ensures ts)
+    (at-enum-told3 .enum-told3 .given .1) _ _ (c .before .before .go-back .ensures ts)
 
 same-length-5 : tie.Need-same-length-5
 same-length-5 c = search needs
 
 returns-5 : tie.Need-returns-5
 returns-5 c ts =
-    let s = c .before .before .before .before .before .before .before .before .before .before .before .before .before in
-    let last-tuple = c .before .before .before .before .before .before .before .before .before .before .last-tuple in
-    let l = c .before .before .before .before .before .before .before .before .l in
-    let if1 = c .before .before .before .before .before .before .if1 in
-    let lock-other = c .before .before .before .before .lock-other in
-    look-took (grid (now (s .args .words)) ts) (s .args .place) (s .args .oid) (s .args .owner) (l .given .0 .0)
-    (last-at (last _ _ _ _) _ (last-tuple .ensures ts) _ (l .given .1)) (if1 .left)
-    (grid (lock-other .last .0) ts) (lock-other .ensures ts) (c .enum-told4 .given .1)
+    let at-lock-other = c .before .before .before .before in
+    let at-if1 = at-lock-other .before .before in
+    let at-l = at-if1 .before .before in
+    let at-last-tuple = at-l .before .before in
+    let s = at-last-tuple .before .before .before in
+    look-took (grid (now (s .args .words)) ts) (s .args .place) (s .args .oid) (s .args .owner) (at-l .l .given .0 .0)
+    (last-at (last _ _ _ _) _ (at-last-tuple .last-tuple .ensures ts) _ (at-l .l .given .1))
+    (at-if1 .if1 .left) (grid (at-lock-other .lock-other .last .0) ts) (at-lock-other .lock-other .ensures ts)
+    (c .enum-told4 .given .1)
 
 pub look-last-spec : {M : Type 1} → statement M
 look-last-spec =

@@ -71,13 +71,14 @@ same-length-2 c = search needs
 returns-2 : tie.Need-returns-2
 unfolding stage1 atEntry andThen turnTells turnLeaves
 returns-2 c =
-    let s = c .before .before .before .before .before .before .before .before .before .before .before .before in
-    let find-object = c .before .before .before .before .before .before .before .before .find-object in
-    let found = c .before .before .before .before .before .before .s in
+    let at-s = c .before .before .before .before .before .before in
+    let at-find-object = at-s .before .before in
+    let s = at-find-object .before .before .before .before in
     stays (now (s .args .index)) (s .pre) _ _ (rw (
-      (sought _ _ _ (find-object .ensures) (found .given .1)),
-      told-corrupt
-          nothing (look _ _) (c .before .before .look-lock .ensures ∙ ap attemptSays (c .enum-told2 .given .1)),
+      (sought _ _ _ (at-find-object .find-object .ensures)
+          (at-s .s .given .1)),
+      told-corrupt nothing (look _ _)
+          (c .before .before .look-lock .ensures ∙ ap attemptSays (c .enum-told2 .given .1)),
     ))
 
 enum-told-3 : tie.Need-enum-told-3
@@ -89,13 +90,14 @@ same-length-3 c = search needs
 returns-3 : tie.Need-returns-3
 unfolding stage1 atEntry andThen turnTells turnLeaves
 returns-3 c =
-    let s = c .before .before .before .before .before .before .before .before .before .before .before .before in
-    let find-object = c .before .before .before .before .before .before .before .before .find-object in
-    let found = c .before .before .before .before .before .before .s in
+    let at-s = c .before .before .before .before .before .before in
+    let at-find-object = at-s .before .before in
+    let s = at-find-object .before .before .before .before in
     stays (now (s .args .index)) (s .pre) _ _ (rw (
-      (sought _ _ _ (find-object .ensures) (found .given .1)),
-      told-blocked
-          nothing (look _ _) (c .before .before .look-lock .ensures ∙ ap attemptSays (c .enum-told3 .given .1)),
+      (sought _ _ _ (at-find-object .find-object .ensures)
+          (at-s .s .given .1)),
+      told-blocked nothing (look _ _)
+          (c .before .before .look-lock .ensures ∙ ap attemptSays (c .enum-told3 .given .1)),
     ))
 
 enum-told-4 : tie.Need-enum-told-4
@@ -152,15 +154,16 @@ same-length-4 c = search needs
 returns-4 : tie.Need-returns-4
 unfolding stage1 atEntry andThen turnTells turnLeaves
 returns-4 c =
-    let s = c .before .before .before .before .before .before .before .before .before .before .before .before .before .before .before .before .before in
-    let find-object = c .before .before .before .before .before .before .before .before .before .before .before .before .before .find-object in
-    let found = c .before .before .before .before .before .before .before .before .before .before .before .s in
-    let look-lock = c .before .before .before .before .before .before .before .look-lock in
-    let enum-told4 = c .before .before .before .before .before .enum-told4 in
+    let at-enum-told4 = c .before .before .before .before .before in
+    let at-look-lock = at-enum-told4 .before .before in
+    let at-s = at-look-lock .before .before .before .before in
+    let at-find-object = at-s .before .before in
+    let s = at-find-object .before .before .before .before in
     stays (now (s .args .index)) (s .pre) _ _ (rw (
-      (sought _ _ _ (find-object .ensures) (found .given .1)),
-      told-done
-          nothing (look _ _) (look-lock .ensures ∙ ap attemptSays (enum-told4 .given .1)) .1,
+      (sought _ _ _ (at-find-object .find-object .ensures)
+          (at-s .s .given .1)),
+      told-done nothing (look _ _)
+          (at-look-lock .look-lock .ensures ∙ ap attemptSays (at-enum-told4 .enum-told4 .given .1)) .1,
       read-corrupt
           (readPlace _ _) _ (c .before .before .read-place .ensures) (c .enum-told5 .given .1),
     ))
@@ -171,22 +174,23 @@ same-length-5 c = search needs
 returns-5 : tie.Need-returns-5
 unfolding stage1 atEntry andThen
 returns-5 c =
-    let s = c .before .before .before .before .before .before .before .before .before .before .before .before .before .before .before .before .before .before .before .before .before in
-    let find-object = c .before .before .before .before .before .before .before .before .before .before .before .before .before .before .before .before .before .find-object in
-    let found = c .before .before .before .before .before .before .before .before .before .before .before .before .before .before .before .s in
-    let look-lock = c .before .before .before .before .before .before .before .before .before .before .before .look-lock in
-    let enum-told4 = c .before .before .before .before .before .before .before .before .before .enum-told4 in
-    let read-place = c .before .before .before .before .before .before .read-place in
-    let enum-told6 = c .before .before .before .before .enum-told6 in
+    let at-enum-told6 = c .before .before .before .before in
+    let at-read-place = at-enum-told6 .before .before in
+    let at-enum-told4 = at-read-place .before .before .before in
+    let at-look-lock = at-enum-told4 .before .before in
+    let at-s = at-look-lock .before .before .before .before in
+    let at-find-object = at-s .before .before in
+    let s = at-find-object .before .before .before .before in
     moves (now (s .args .index)) (s .pre) _ _ (c .before .before .hold-lock .last .0)
     (c .before .before .hold-lock .kept .0 ∙ (part-length (now (s .args .index)) COUNT 512
     (omega (arith, s .pre)))) (rw (
-      (sought _ _ _ (find-object .ensures) (found .given .1)),
-      told-done nothing
-          (look _ _) (look-lock .ensures ∙ ap attemptSays (enum-told4 .given .1)) .1,
+      (sought _ _ _ (at-find-object .find-object .ensures) (at-s .s .given .1)),
+      told-done nothing (look _ _) (at-look-lock .look-lock .ensures ∙ ap attemptSays
+          (at-enum-told4 .enum-told4 .given .1)) .1,
       read-nowhere (readPlace _ _) _
-          (read-place .ensures) (enum-told6 .given .1),
-    ) (c .before .before .hold-lock .ensures))
+          (at-read-place .read-place .ensures) (at-enum-told6 .enum-told6 .given .1),
+    )
+    (c .before .before .hold-lock .ensures))
 
 same-length-6 : tie.Need-same-length-6
 same-length-6 c = search needs
@@ -194,21 +198,21 @@ same-length-6 c = search needs
 returns-6 : tie.Need-returns-6
 unfolding stage1 atEntry andThen
 returns-6 c =
-    let s = c .before .before .before .before .before .before .before .before .before .before .before .before .before .before .before .before .before .before .before .before .before .before in
-    let find-object = c .before .before .before .before .before .before .before .before .before .before .before .before .before .before .before .before .before .before .find-object in
-    let found = c .before .before .before .before .before .before .before .before .before .before .before .before .before .before .before .before .s in
-    let look-lock = c .before .before .before .before .before .before .before .before .before .before .before .before .look-lock in
-    let enum-told4 = c .before .before .before .before .before .before .before .before .before .before .enum-told4 in
-    let read-place = c .before .before .before .before .before .before .before .read-place in
-    let old = c .before .before .before .before .before .old in
+    let at-old = c .before .before .before .before .before in
+    let at-read-place = at-old .before .before in
+    let at-enum-told4 = at-read-place .before .before .before in
+    let at-look-lock = at-enum-told4 .before .before in
+    let at-s = at-look-lock .before .before .before .before in
+    let at-find-object = at-s .before .before in
+    let s = at-find-object .before .before .before .before in
     moves (now (s .args .index)) (s .pre) _ _ (c .before .before .hold-lock2 .last .0)
     (c .before .before .hold-lock2 .kept .0 ∙ (part-length (now (s .args .index)) COUNT 512
     (omega (arith, s .pre)))) (rw (
-      (sought _ _ _ (find-object .ensures) (found .given .1)),
-      told-done nothing
-          (look _ _) (look-lock .ensures ∙ ap attemptSays (enum-told4 .given .1)) .1,
+      (sought _ _ _ (at-find-object .find-object .ensures) (at-s .s .given .1)),
+      told-done nothing (look _ _) (at-look-lock .look-lock .ensures ∙ ap attemptSays
+          (at-enum-told4 .enum-told4 .given .1)) .1,
       read-at (readPlace _ _) _ _
-          (read-place .ensures) (old .given .1),
+          (at-read-place .read-place .ensures) (at-old .old .given .1),
     ) (c .before .before .hold-lock2 .ensures))
 
 pub take-object-spec : {M : Type 1} → statement M

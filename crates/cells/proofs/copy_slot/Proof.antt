@@ -33,14 +33,15 @@ same-length-2 c = search needs
 returns : tie.Need-returns
 unfolding grid
 returns c =
-    let s = c .before .before .before .before .before .before .before in
-    let copy-tuple = c .before .before .before .copy-tuple in
+    let at-copy-tuple = c .before .before .before in
+    let s = at-copy-tuple .before .before .before .before in
     within nothing (withTuples (grid (now (s .args .words)) (now (s .args .times))))
     ((grid (now (s .args .words)) (now (s .args .times))) .tuples) (copy _ _ _ _ _) _
-    (tuplesAt (copy-tuple .last .0) (copy-tuple .last .1 .0)) _ (copy-tuple .ensures)
-    (put-tuples (now (s .args .words)) (now (s .args .times)) (s .pre .0) (copy-tuple .last .0)
-    (copy-tuple .last .1 .0) (tuples# (now (s .args .words)) (s .pre .0) (copy-tuple .last .0)
-    (copy-tuple .kept .0)))
+    (tuplesAt (at-copy-tuple .copy-tuple .last .0) (at-copy-tuple .copy-tuple .last .1 .0)) _
+    (at-copy-tuple .copy-tuple .ensures) (put-tuples (now (s .args .words)) (now (s .args .times)) (s .pre .0)
+    (at-copy-tuple .copy-tuple .last .0) (at-copy-tuple .copy-tuple .last .1 .0)
+    (tuples# (now (s .args .words)) (s .pre .0) (at-copy-tuple .copy-tuple .last .0)
+    (at-copy-tuple .copy-tuple .kept .0)))
 
 pub copy-slot-spec : {M : Type 1} → statement M
 copy-slot-spec =

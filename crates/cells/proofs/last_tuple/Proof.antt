@@ -51,13 +51,13 @@ shared-slice-read-n c = search needs
 returns-3 : tie.Need-returns-3
 unfolding last firstBucket needSome need andThen tells
 returns-3 c ts =
-    let s = c .before .before .before .before .before in
-    let if1 = c .before .before .before .before .if1 in
+    let at-if1 = c .before .before .before .before in
+    let s = at-if1 .before in
     rw (
-      lt-ltb _ _ (if1 .left),
-      first-at (now (s .args .words)) ts (s .args .cell) (if1 .left),
-      lt-ltb _ _
-          (c .before .before .if2 .left),
+      lt-ltb _ _ (at-if1 .if1 .left),
+      first-at (now (s .args .words)) ts (s .args .cell) (at-if1 .if1 .left),
+      lt-ltb
+          _ _ (c .before .before .if2 .left),
       count-at (now (s .args .words)) ts
           (at (now (s .args .words)) (FIRST + (s .args .cell))) (c .before .before .if2 .left),
       eq-eqb _ _
@@ -67,16 +67,18 @@ returns-3 c ts =
 returns-4 : tie.Need-returns-4
 unfolding last firstBucket needSome need andThen tells
 returns-4 c ts =
-    let s = c .before .before .before .before .before .before in
-    let if1 = c .before .before .before .before .before .if1 in
-    let if2 = c .before .before .before .if2 in
+    let at-if2 = c .before .before .before in
+    let at-if1 = at-if2 .before .before in
+    let s = at-if1 .before in
     rw (
-      lt-ltb _ _ (if1 .left),
-      first-at (now (s .args .words)) ts (s .args .cell) (if1 .left),
-      lt-ltb _ _ (if2 .left),
-      count-at (now (s .args .words)) ts (at (now (s .args .words)) (FIRST + (s .args .cell))) (if2 .left),
-      ne-eqb
-          _ _ (c .before .if3 .left),
+      lt-ltb _ _ (at-if1 .if1 .left),
+      first-at (now (s .args .words)) ts (s .args .cell) (at-if1 .if1 .left),
+      lt-ltb
+          _ _ (at-if2 .if2 .left),
+      count-at (now (s .args .words)) ts
+          (at (now (s .args .words)) (FIRST + (s .args .cell))) (at-if2 .if2 .left),
+      ne-eqb _ _
+          (c .before .if3 .left),
       lt-leb _ _ (c .if4 .taken),
     )
 
@@ -104,21 +106,23 @@ shared-slice-read-oid c = search needs
 returns-5 : tie.Need-returns-5
 unfolding last firstBucket needSome need andThen tells
 returns-5 c ts =
-    let s = c .before .before .before .before .before .before .before in
-    let if1 = c .before .before .before .before .before .before .if1 in
-    let if2 = c .before .before .before .before .if2 in
+    let at-if2 = c .before .before .before .before in
+    let at-if1 = at-if2 .before .before in
+    let s = at-if1 .before in
     rw (
-      lt-ltb _ _ (if1 .left),
-      first-at (now (s .args .words)) ts (s .args .cell) (if1 .left),
-      lt-ltb _ _ (if2 .left),
-      count-at (now (s .args .words)) ts (at (now (s .args .words)) (FIRST + (s .args .cell))) (if2 .left),
-      ne-eqb
-          _ _ (c .before .before .if3 .left),
+      lt-ltb _ _ (at-if1 .if1 .left),
+      first-at (now (s .args .words)) ts (s .args .cell) (at-if1 .if1 .left),
+      lt-ltb
+          _ _ (at-if2 .if2 .left),
+      count-at (now (s .args .words)) ts
+          (at (now (s .args .words)) (FIRST + (s .args .cell))) (at-if2 .if2 .left),
+      ne-eqb _ _
+          (c .before .before .if3 .left),
       le-leb _ _ (c .before .if4 .left),
       owner-at (now (s .args .words)) ts
           (4 * (at (now (s .args .words)) (FIRST + (s .args .cell))) +
           ((at (now (s .args .words)) (COUNT + (at (now (s .args .words)) (FIRST + (s .args .cell))))) - 1))
-          (lt-last (if2 .left) (c .before .before .if3 .left) (c .before .if4 .left)),
+          (lt-last (at-if2 .if2 .left) (c .before .before .if3 .left) (c .before .if4 .left)),
     )
 
 pub last-tuple-spec : {M : Type 1} → statement M

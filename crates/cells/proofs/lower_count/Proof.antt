@@ -56,13 +56,13 @@ slice-read-n c = search needs
 returns-3 : tie.Need-returns-3
 unfolding lower firstBucket needSome need pick andThen
 returns-3 c ts =
-    let s = c .before .before .before .before .before in
-    let if1 = c .before .before .before .before .if1 in
+    let at-if1 = c .before .before .before .before in
+    let s = at-if1 .before in
     refuses _ _ _ _ (rw (
-      lt-ltb _ _ (if1 .left),
-      first-at (now (s .args .words)) ts (s .args .cell) (if1 .left),
-      lt-ltb
-          _ _ (c .before .before .if2 .left),
+      lt-ltb _ _ (at-if1 .if1 .left),
+      first-at (now (s .args .words)) ts (s .args .cell)
+          (at-if1 .if1 .left),
+      lt-ltb _ _ (c .before .before .if2 .left),
       count-at (now (s .args .words)) ts
           (at (now (s .args .words)) (FIRST + (s .args .cell))) (c .before .before .if2 .left),
       eq-eqb _ _
@@ -72,17 +72,18 @@ returns-3 c ts =
 returns-4 : tie.Need-returns-4
 unfolding lower firstBucket needSome need pick andThen
 returns-4 c ts =
-    let s = c .before .before .before .before .before .before in
-    let if1 = c .before .before .before .before .before .if1 in
-    let if2 = c .before .before .before .if2 in
+    let at-if2 = c .before .before .before in
+    let at-if1 = at-if2 .before .before in
+    let s = at-if1 .before in
     refuses _ _ _ _ (rw (
-      lt-ltb _ _ (if1 .left),
-      first-at (now (s .args .words)) ts (s .args .cell) (if1 .left),
-      lt-ltb
-          _ _ (if2 .left),
-      count-at (now (s .args .words)) ts (at (now (s .args .words)) (FIRST + (s .args .cell)))
-          (if2 .left),
-      ne-eqb _ _ (c .before .if3 .left),
+      lt-ltb _ _ (at-if1 .if1 .left),
+      first-at (now (s .args .words)) ts (s .args .cell)
+          (at-if1 .if1 .left),
+      lt-ltb _ _ (at-if2 .if2 .left),
+      count-at (now (s .args .words)) ts
+          (at (now (s .args .words)) (FIRST + (s .args .cell))) (at-if2 .if2 .left),
+      ne-eqb _ _
+          (c .before .if3 .left),
       lt-leb _ _ (c .if4 .taken),
     ))
 
@@ -103,17 +104,18 @@ same-length c = search needs
 
 returns-5 : tie.Need-returns-5
 returns-5 c ts =
-    let s = c .before .before .before .before .before .before .before in
-    let if1 = c .before .before .before .before .before .before .if1 in
-    let if2 = c .before .before .before .before .if2 in
+    let at-if2 = c .before .before .before .before in
+    let at-if1 = at-if2 .before .before in
+    let s = at-if1 .before in
     kept (grid (now (s .args .words)) ts) (s .args .cell) (at (now (s .args .words)) (FIRST + (s .args .cell)))
-    (at (now (s .args .words)) (COUNT + (at (now (s .args .words)) (FIRST + (s .args .cell))))) (if1 .left)
-    (first-at (now (s .args .words)) ts (s .args .cell) (if1 .left)) (if2 .left)
-    (count-at (now (s .args .words)) ts (at (now (s .args .words)) (FIRST + (s .args .cell))) (if2 .left))
-    (c .before .before .if3 .left) (c .before .if4 .left) (c .if5 .taken) _
-    (set-count (now (s .args .words)) ts (s .pre) (at (now (s .args .words)) (FIRST + (s .args .cell)))
+    (at (now (s .args .words)) (COUNT + (at (now (s .args .words)) (FIRST + (s .args .cell)))))
+    (at-if1 .if1 .left) (first-at (now (s .args .words)) ts (s .args .cell) (at-if1 .if1 .left))
+    (at-if2 .if2 .left) (count-at (now (s .args .words)) ts
+    (at (now (s .args .words)) (FIRST + (s .args .cell))) (at-if2 .if2 .left)) (c .before .before .if3 .left)
+    (c .before .if4 .left) (c .if5 .taken) _ (set-count (now (s .args .words)) ts (s .pre)
+    (at (now (s .args .words)) (FIRST + (s .args .cell)))
     ((at (now (s .args .words)) (COUNT + (at (now (s .args .words)) (FIRST + (s .args .cell))))) - 1)
-    (if2 .left))
+    (at-if2 .if2 .left))
 
 add-below : tie.Need-add-below
 add-below c = search needs
@@ -127,24 +129,24 @@ slice-read-below c = search needs
 returns-6 : tie.Need-returns-6
 unfolding lower firstBucket needSome need pick andThen
 returns-6 c ts =
-    let s = c .before .before .before .before .before .before .before .before .before in
-    let if1 = c .before .before .before .before .before .before .before .before .if1 in
-    let if2 = c .before .before .before .before .before .before .if2 in
-    let if3 = c .before .before .before .before .if3 in
-    let if4 = c .before .before .before .if4 in
+    let at-if4 = c .before .before .before in
+    let at-if3 = at-if4 .before in
+    let at-if2 = at-if3 .before .before in
+    let at-if1 = at-if2 .before .before in
+    let s = at-if1 .before in
     refuses _ _ _ _ (rw (
-      lt-ltb _ _ (if1 .left),
-      first-at (now (s .args .words)) ts (s .args .cell) (if1 .left),
-      lt-ltb
-          _ _ (if2 .left),
-      count-at (now (s .args .words)) ts (at (now (s .args .words)) (FIRST + (s .args .cell)))
-          (if2 .left),
-      ne-eqb _ _ (if3 .left),
-      le-leb _ _ (if4 .left),
+      lt-ltb _ _ (at-if1 .if1 .left),
+      first-at (now (s .args .words)) ts (s .args .cell)
+          (at-if1 .if1 .left),
+      lt-ltb _ _ (at-if2 .if2 .left),
+      count-at (now (s .args .words)) ts
+          (at (now (s .args .words)) (FIRST + (s .args .cell))) (at-if2 .if2 .left),
+      ne-eqb _ _ (at-if3 .if3 .left),
+      le-leb _ _ (at-if4 .if4 .left),
       eq-eqb _ _ (c .before .before .if5 .left),
-      next-at (now (s .args .words)) ts (at (now (s .args .words)) (FIRST + (s .args .cell))) (if2 .left),
-      lt-leb
-          _ _ (c .if6 .taken),
+      next-at (now (s .args .words))
+          ts (at (now (s .args .words)) (FIRST + (s .args .cell))) (at-if2 .if2 .left),
+      lt-leb _ _ (c .if6 .taken),
     ))
 
 mul-words-2 : tie.Need-mul-words-2
@@ -167,22 +169,23 @@ same-length-2 c = search needs
 
 returns-7 : tie.Need-returns-7
 returns-7 c ts =
-    let s = c .before .before .before .before .before .before .before .before .before in
-    let if1 = c .before .before .before .before .before .before .before .before .if1 in
-    let if2 = c .before .before .before .before .before .before .if2 in
-    let if3 = c .before .before .before .before .if3 in
-    let if4 = c .before .before .before .if4 in
+    let at-if4 = c .before .before .before in
+    let at-if3 = at-if4 .before in
+    let at-if2 = at-if3 .before .before in
+    let at-if1 = at-if2 .before .before in
+    let s = at-if1 .before in
     unlinked (grid (now (s .args .words)) ts) (s .args .cell) (at (now (s .args .words)) (FIRST + (s .args .cell)))
-    (at (now (s .args .words)) (COUNT + (at (now (s .args .words)) (FIRST + (s .args .cell))))) (if1 .left)
-    (first-at (now (s .args .words)) ts (s .args .cell) (if1 .left)) (if2 .left)
-    (count-at (now (s .args .words)) ts (at (now (s .args .words)) (FIRST + (s .args .cell))) (if2 .left))
-    (if3 .left) (if4 .left) (c .before .before .if5 .left)
+    (at (now (s .args .words)) (COUNT + (at (now (s .args .words)) (FIRST + (s .args .cell)))))
+    (at-if1 .if1 .left) (first-at (now (s .args .words)) ts (s .args .cell) (at-if1 .if1 .left))
+    (at-if2 .if2 .left) (count-at (now (s .args .words)) ts
+    (at (now (s .args .words)) (FIRST + (s .args .cell))) (at-if2 .if2 .left)) (at-if3 .if3 .left)
+    (at-if4 .if4 .left) (c .before .before .if5 .left)
     (at (now (s .args .words)) (NEXT + (at (now (s .args .words)) (FIRST + (s .args .cell)))))
-    (next-at (now (s .args .words)) ts (at (now (s .args .words)) (FIRST + (s .args .cell))) (if2 .left))
-    (c .if6 .left) _ (stored-unlink (now (s .args .words)) (s .pre) ts (s .args .cell)
+    (next-at (now (s .args .words)) ts (at (now (s .args .words)) (FIRST + (s .args .cell)))
+    (at-if2 .if2 .left)) (c .if6 .left) _ (stored-unlink (now (s .args .words)) (s .pre) ts (s .args .cell)
     (at (now (s .args .words)) (FIRST + (s .args .cell)))
-    (at (now (s .args .words)) (NEXT + (at (now (s .args .words)) (FIRST + (s .args .cell))))) (if1 .left)
-    (if2 .left))
+    (at (now (s .args .words)) (NEXT + (at (now (s .args .words)) (FIRST + (s .args .cell)))))
+    (at-if1 .if1 .left) (at-if2 .if2 .left))
 
 pub lower-count-spec : {M : Type 1} → statement M
 lower-count-spec =

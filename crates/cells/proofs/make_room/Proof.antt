@@ -52,15 +52,16 @@ same-length c = search needs
 returns-3 : tie.Need-returns-3
 unfolding makeRoom need pick
 returns-3 c ts =
-    let s = c .before .before .before .before .before .before .before .before .before in
-    let if1 = c .before .before .before .before .before .before .before .if1 in
-    let if2 = c .before .before .before .before .before .if2 in
-    let if3 = c .before .before .before .before .if3 in
+    let at-if3 = c .before .before .before .before in
+    let at-if2 = at-if3 .before in
+    let at-if1 = at-if2 .before .before in
+    let s = at-if1 .before .before in
     rw (
-      lt-ltb _ _ (if1 .left),
-      first-at (now (s .args .words)) ts (s .args .cell) (if1 .left),
-      le-leb _ _ (if2 .left),
-      eq-eqb _ _ (if3 .taken),
+      lt-ltb _ _ (at-if1 .if1 .left),
+      first-at (now (s .args .words)) ts (s .args .cell) (at-if1 .if1 .left),
+      le-leb
+          _ _ (at-if2 .if2 .left),
+      eq-eqb _ _ (at-if3 .if3 .taken),
     ) (c .before .before .push-bucket .ensures ts)
 
 cast-n : tie.Need-cast-n
@@ -78,17 +79,18 @@ slice-read-n c = search needs
 returns-4 : tie.Need-returns-4
 unfolding makeRoom need pick
 returns-4 c ts =
-    let s = c .before .before .before .before .before .before .before in
-    let if1 = c .before .before .before .before .before .if1 in
-    let if2 = c .before .before .before .if2 in
+    let at-if2 = c .before .before .before in
+    let at-if1 = at-if2 .before .before in
+    let s = at-if1 .before .before in
     refuses _ _ _ _ (rw (
-      lt-ltb _ _ (if1 .left),
-      first-at (now (s .args .words)) ts (s .args .cell) (if1 .left),
-      le-leb
-          _ _ (if2 .left),
+      lt-ltb _ _ (at-if1 .if1 .left),
+      first-at (now (s .args .words)) ts (s .args .cell)
+          (at-if1 .if1 .left),
+      le-leb _ _ (at-if2 .if2 .left),
       ne-eqb _ _ (c .before .before .if3 .left),
-      count-at (now (s .args .words)) ts
-          (at (now (s .args .words)) (FIRST + (s .args .cell))) (short (if2 .left) (c .before .before .if3 .left)),
+      count-at
+          (now (s .args .words)) ts (at (now (s .args .words)) (FIRST + (s .args .cell)))
+          (short (at-if2 .if2 .left) (c .before .before .if3 .left)),
       lt-leb _ _ (c .if4 .taken),
     ))
 
@@ -101,41 +103,44 @@ same-length-2 c = search needs
 returns-5 : tie.Need-returns-5
 unfolding makeRoom need pick
 returns-5 c ts =
-    let s = c .before .before .before .before .before .before .before .before .before .before .before .before in
-    let if1 = c .before .before .before .before .before .before .before .before .before .before .if1 in
-    let if2 = c .before .before .before .before .before .before .before .before .if2 in
-    let if3 = c .before .before .before .before .before .before .before .if3 in
-    let if4 = c .before .before .before .before .before .if4 in
-    let if5 = c .before .before .before .before .if5 in
+    let at-if5 = c .before .before .before .before in
+    let at-if4 = at-if5 .before in
+    let at-if3 = at-if4 .before .before in
+    let at-if2 = at-if3 .before in
+    let at-if1 = at-if2 .before .before in
+    let s = at-if1 .before .before in
     rw (
-      lt-ltb _ _ (if1 .left),
-      first-at (now (s .args .words)) ts (s .args .cell) (if1 .left),
-      le-leb _ _ (if2 .left),
-      ne-eqb _ _ (if3 .left),
+      lt-ltb _ _ (at-if1 .if1 .left),
+      first-at (now (s .args .words)) ts (s .args .cell) (at-if1 .if1 .left),
+      le-leb
+          _ _ (at-if2 .if2 .left),
+      ne-eqb _ _ (at-if3 .if3 .left),
       count-at (now (s .args .words)) ts
-          (at (now (s .args .words)) (FIRST + (s .args .cell))) (short (if2 .left) (if3 .left)),
-      le-leb _ _
-          (if4 .left),
-      eq-eqb _ _ (if5 .taken),
-    ) (c .before .before .push-bucket2 .ensures ts)
+          (at (now (s .args .words)) (FIRST + (s .args .cell))) (short (at-if2 .if2 .left) (at-if3 .if3 .left)),
+      le-leb _ _ (at-if4 .if4 .left),
+      eq-eqb _ _ (at-if5 .if5 .taken),
+    )
+    (c .before .before .push-bucket2 .ensures ts)
 
 returns-6 : tie.Need-returns-6
 unfolding makeRoom need pick
 returns-6 c ts =
-    let s = c .before .before .before .before .before .before .before .before in
-    let if1 = c .before .before .before .before .before .before .if1 in
-    let if2 = c .before .before .before .before .if2 in
-    let if3 = c .before .before .before .if3 in
+    let at-if3 = c .before .before .before in
+    let at-if2 = at-if3 .before in
+    let at-if1 = at-if2 .before .before in
+    let s = at-if1 .before .before in
     comes _ _ _ _ _ _ (rw (
-      lt-ltb _ _ (if1 .left),
-      first-at (now (s .args .words)) ts (s .args .cell) (if1 .left),
-      le-leb _ _ (if2 .left),
-      ne-eqb _ _ (if3 .left),
-      count-at (now (s .args .words)) ts
-          (at (now (s .args .words)) (FIRST + (s .args .cell))) (short (if2 .left) (if3 .left)),
-      le-leb _ _
-          (c .before .if4 .left),
-      ne-eqb _ _ (c .if5 .left),
+      lt-ltb _ _ (at-if1 .if1 .left),
+      first-at (now (s .args .words)) ts (s .args .cell)
+          (at-if1 .if1 .left),
+      le-leb _ _ (at-if2 .if2 .left),
+      ne-eqb _ _ (at-if3 .if3 .left),
+      count-at
+          (now (s .args .words)) ts (at (now (s .args .words)) (FIRST + (s .args .cell)))
+          (short (at-if2 .if2 .left) (at-if3 .if3 .left)),
+      le-leb _ _ (c .before .if4 .left),
+      ne-eqb _ _
+          (c .if5 .left),
     )) refl
 
 pub make-room-spec : {M : Type 1} → statement M

@@ -33,14 +33,16 @@ same-length-2 c = search needs
 returns : tie.Need-returns
 unfolding grid
 returns c =
-    let s = c .before .before .before .before .before .before .before in
-    let overwrite-tuple = c .before .before .before .overwrite-tuple in
+    let at-overwrite-tuple = c .before .before .before in
+    let s = at-overwrite-tuple .before .before .before .before in
     within nothing (withTuples (grid (now (s .args .words)) (now (s .args .times))))
     ((grid (now (s .args .words)) (now (s .args .times))) .tuples) (overwrite _ _ _ _ _ _ _) _
-    (tuplesAt (overwrite-tuple .last .0) (overwrite-tuple .last .1 .0)) _ (overwrite-tuple .ensures)
-    (put-tuples (now (s .args .words)) (now (s .args .times)) (s .pre .0) (overwrite-tuple .last .0)
-    (overwrite-tuple .last .1 .0) (tuples# (now (s .args .words)) (s .pre .0) (overwrite-tuple .last .0)
-    (overwrite-tuple .kept .0)))
+    (tuplesAt (at-overwrite-tuple .overwrite-tuple .last .0)
+    (at-overwrite-tuple .overwrite-tuple .last .1 .0)) _ (at-overwrite-tuple .overwrite-tuple .ensures)
+    (put-tuples (now (s .args .words)) (now (s .args .times)) (s .pre .0)
+    (at-overwrite-tuple .overwrite-tuple .last .0) (at-overwrite-tuple .overwrite-tuple .last .1 .0)
+    (tuples# (now (s .args .words)) (s .pre .0) (at-overwrite-tuple .overwrite-tuple .last .0)
+    (at-overwrite-tuple .overwrite-tuple .kept .0)))
 
 pub overwrite-slot-spec : {M : Type 1} → statement M
 overwrite-slot-spec =

@@ -47,24 +47,26 @@ same-length c = search needs
 
 returns-2 : tie.Need-returns-2
 returns-2 c ts =
-    let s = c .before .before .before .before .before .before .before .before in
-    let if1 = c .before .before .before .before .before .before .if1 in
-    let take-bucket = c .before .before .before .before .take-bucket in
-    let e = (taken-corrupt _ _ _ (take-bucket .ensures) (c .enum-told .given .1)) in
-    dry (grid (now (s .args .words)) ts) (s .args .cell) (if1 .left)
+    let at-take-bucket = c .before .before .before .before in
+    let at-if1 = at-take-bucket .before .before in
+    let s = at-if1 .before .before in
+    let e = (taken-corrupt _ _ _ (at-take-bucket .take-bucket .ensures) (c .enum-told .given .1)) in
+    dry (grid (now (s .args .words)) ts) (s .args .cell) (at-if1 .if1 .left)
     (ap take (sym (pool-lent (now (s .args .words)) ts (s .pre))) ∙ e .0) _
-    (stored-pool (now (s .args .words)) (s .pre) (take-bucket .last .0) (take-bucket .kept .0) ts ∙ ap
-    (withPool (grid (now (s .args .words)) ts)) (e .1 ∙ pool-lent (now (s .args .words)) ts (s .pre)))
+    (stored-pool (now (s .args .words)) (s .pre) (at-take-bucket .take-bucket .last .0)
+    (at-take-bucket .take-bucket .kept .0) ts ∙ ap (withPool (grid (now (s .args .words)) ts))
+    (e .1 ∙ pool-lent (now (s .args .words)) ts (s .pre)))
 
 link-bucket-requires : tie.Need-link-bucket-requires
 link-bucket-requires c κs =
-    let s = c .before .before .before .before .before .before .before .before .before .before in
-    let if1 = c .before .before .before .before .before .before .before .before .if1 in
-    let take-bucket = c .before .before .before .before .before .before .take-bucket in (
-      lent# (now (s .args .words)) (s .pre) (take-bucket .last .0) (take-bucket .kept .0),
-      (if1 .left),
+    let at-take-bucket = c .before .before .before .before .before .before in
+    let at-if1 = at-take-bucket .before .before in
+    let s = at-if1 .before .before in (
+      lent# (now (s .args .words)) (s .pre) (at-take-bucket .take-bucket .last .0)
+          (at-take-bucket .take-bucket .kept .0),
+      (at-if1 .if1 .left),
       take-below _ _
-          (taken-bucket _ _ _ (take-bucket .ensures) _ (c .before .before .taken .given .1)),
+          (taken-bucket _ _ _ (at-take-bucket .take-bucket .ensures) _ (c .before .before .taken .given .1)),
     )
 
 same-length-2 : tie.Need-same-length-2
@@ -72,16 +74,17 @@ same-length-2 c = search needs
 
 returns-3 : tie.Need-returns-3
 returns-3 c ts =
-    let s = c .before .before .before .before .before .before .before .before .before .before .before .before .before in
-    let if1 = c .before .before .before .before .before .before .before .before .before .before .before .if1 in
-    let take-bucket = c .before .before .before .before .before .before .before .before .before .take-bucket in
-    let taken = c .before .before .before .before .before .taken in
-    pushed (grid (now (s .args .words)) ts) (s .args .cell) _ (take-bucket .last .0) (if1 .left)
-    (ap take (sym (pool-lent (now (s .args .words)) ts (s .pre))) ∙
-    (taken-bucket _ _ _ (take-bucket .ensures) _ (taken .given .1))) _
-    (c .before .before .link-bucket .ensures ts ∙ ap (λ (t : Tables). linked t (s .args .cell)
-    (taken .given .0 .0)) (stored-pool (now (s .args .words)) (s .pre) (take-bucket .last .0)
-    (take-bucket .kept .0) ts))
+    let at-taken = c .before .before .before .before .before in
+    let at-take-bucket = at-taken .before .before .before .before in
+    let at-if1 = at-take-bucket .before .before in
+    let s = at-if1 .before .before in
+    pushed (grid (now (s .args .words)) ts) (s .args .cell) _ (at-take-bucket .take-bucket .last .0)
+    (at-if1 .if1 .left) (ap take (sym (pool-lent (now (s .args .words)) ts (s .pre))) ∙
+    (taken-bucket _ _ _ (at-take-bucket .take-bucket .ensures) _ (at-taken .taken .given .1))) _
+    (c .before .before .link-bucket .ensures ts ∙ ap
+    (λ (t : Tables). linked t (s .args .cell) (at-taken .taken .given .0 .0))
+    (stored-pool (now (s .args .words)) (s .pre) (at-take-bucket .take-bucket .last .0)
+    (at-take-bucket .take-bucket .kept .0) ts))
 
 pub push-bucket-spec : {M : Type 1} → statement M
 push-bucket-spec =

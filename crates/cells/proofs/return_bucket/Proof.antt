@@ -43,11 +43,12 @@ returns-2 c ts =
 returns-3 : tie.Need-returns-3
 unfolding giveBack need await
 returns-3 c ts =
-    let s = c .before .before .before .before .before in
-    let if1 = c .before .before .before .if1 in
+    let at-if1 = c .before .before .before in
+    let s = at-if1 .before .before in
     waits _ _ _ _ (rw (
-      lt-ltb _ _ (if1 .left),
-      readers-at (now (s .args .words)) ts (s .args .bucket) (if1 .left),
+      lt-ltb _ _ (at-if1 .if1 .left),
+      readers-at (now (s .args .words)) ts (s .args .bucket)
+          (at-if1 .if1 .left),
       le-leb _ _ (c .before .if2 .left),
       ne-eqb _ _ (c .if3 .taken),
     ))
@@ -75,34 +76,38 @@ same-length c = search needs
 
 returns-4 : tie.Need-returns-4
 returns-4 c ts =
-    let s = c .before .before .before .before .before .before .before .before .before .before .before in
-    let if1 = c .before .before .before .before .before .before .before .before .before .if1 in
-    let if2 = c .before .before .before .before .before .before .before .if2 in
-    let if3 = c .before .before .before .before .before .before .if3 in
-    let give-bucket = c .before .before .before .before .give-bucket in
+    let at-give-bucket = c .before .before .before .before in
+    let at-if3 = at-give-bucket .before .before in
+    let at-if2 = at-if3 .before in
+    let at-if1 = at-if2 .before .before in
+    let s = at-if1 .before .before in
     returned (grid (now (s .args .words)) ts) (s .args .bucket)
-    (at (now (s .args .words)) (READERS + (s .args .bucket))) (if1 .left)
-    (readers-at (now (s .args .words)) ts (s .args .bucket) (if1 .left)) (if2 .left) (if3 .left) _
-    (give-bucket .last .0) (rw (pool-lent (now (s .args .words)) ts (s .pre)) at
-    (rw (c .enum-told .given .1) at (give-bucket .ensures))) _
-    (stored-pool (now (s .args .words)) (s .pre) (give-bucket .last .0) (give-bucket .kept .0) ts)
+    (at (now (s .args .words)) (READERS + (s .args .bucket))) (at-if1 .if1 .left)
+    (readers-at (now (s .args .words)) ts (s .args .bucket) (at-if1 .if1 .left)) (at-if2 .if2 .left)
+    (at-if3 .if3 .left) _ (at-give-bucket .give-bucket .last .0)
+    (rw (pool-lent (now (s .args .words)) ts (s .pre)) at
+    (rw (c .enum-told .given .1) at (at-give-bucket .give-bucket .ensures))) _
+    (stored-pool (now (s .args .words)) (s .pre) (at-give-bucket .give-bucket .last .0)
+    (at-give-bucket .give-bucket .kept .0) ts)
 
 same-length-2 : tie.Need-same-length-2
 same-length-2 c = search needs
 
 returns-5 : tie.Need-returns-5
 returns-5 c ts =
-    let s = c .before .before .before .before .before .before .before .before .before .before .before in
-    let if1 = c .before .before .before .before .before .before .before .before .before .if1 in
-    let if2 = c .before .before .before .before .before .before .before .if2 in
-    let if3 = c .before .before .before .before .before .before .if3 in
-    let give-bucket = c .before .before .before .before .give-bucket in
+    let at-give-bucket = c .before .before .before .before in
+    let at-if3 = at-give-bucket .before .before in
+    let at-if2 = at-if3 .before in
+    let at-if1 = at-if2 .before .before in
+    let s = at-if1 .before .before in
     returned (grid (now (s .args .words)) ts) (s .args .bucket)
-    (at (now (s .args .words)) (READERS + (s .args .bucket))) (if1 .left)
-    (readers-at (now (s .args .words)) ts (s .args .bucket) (if1 .left)) (if2 .left) (if3 .left) _
-    (give-bucket .last .0) (rw (pool-lent (now (s .args .words)) ts (s .pre)) at
-    (rw (c .enum-told2 .given .1) at (give-bucket .ensures))) _
-    (stored-pool (now (s .args .words)) (s .pre) (give-bucket .last .0) (give-bucket .kept .0) ts)
+    (at (now (s .args .words)) (READERS + (s .args .bucket))) (at-if1 .if1 .left)
+    (readers-at (now (s .args .words)) ts (s .args .bucket) (at-if1 .if1 .left)) (at-if2 .if2 .left)
+    (at-if3 .if3 .left) _ (at-give-bucket .give-bucket .last .0)
+    (rw (pool-lent (now (s .args .words)) ts (s .pre)) at
+    (rw (c .enum-told2 .given .1) at (at-give-bucket .give-bucket .ensures))) _
+    (stored-pool (now (s .args .words)) (s .pre) (at-give-bucket .give-bucket .last .0)
+    (at-give-bucket .give-bucket .kept .0) ts)
 
 pub return-bucket-spec : {M : Type 1} → statement M
 return-bucket-spec =

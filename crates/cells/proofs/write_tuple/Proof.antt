@@ -56,15 +56,16 @@ slice-read-slot c = search needs
 returns-3 : tie.Need-returns-3
 unfolding write firstBucket need andThen
 returns-3 c =
-    let s = c .before .before .before .before .before .before in
-    let if1 = c .before .before .before .before .if1 in
+    let at-if1 = c .before .before .before .before in
+    let s = at-if1 .before .before in
     refuses _ _ _ _ (rw (
-      lt-ltb _ _ (if1 .left),
-      first-at (now (s .args .words)) (now (s .args .times)) (s .args .cell)
-          (if1 .left),
+      lt-ltb _ _ (at-if1 .if1 .left),
+      first-at (now (s .args .words)) (now (s .args .times))
+          (s .args .cell) (at-if1 .if1 .left),
       lt-ltb _ _ (c .before .before .if2 .left),
-      count-at (now (s .args .words))
-          (now (s .args .times)) (at (now (s .args .words)) (FIRST + (s .args .cell))) (c .before .before .if2 .left),
+      count-at
+          (now (s .args .words)) (now (s .args .times)) (at (now (s .args .words)) (FIRST + (s .args .cell)))
+          (c .before .before .if2 .left),
       le-ltb _ _ (c .if3 .taken),
     ))
 
@@ -85,22 +86,23 @@ same-length-2 c = search needs
 
 returns-4 : tie.Need-returns-4
 returns-4 c =
-    let s = c .before .before .before .before .before .before .before .before .before .before .before .before .before .before in
-    let if1 = c .before .before .before .before .before .before .before .before .before .before .before .before .if1 in
-    let if2 = c .before .before .before .before .before .before .before .before .before .before .if2 in
-    let if3 = c .before .before .before .before .before .before .before .before .if3 in
-    let overwrite-slot = c .before .before .before .before .before .overwrite-slot in
+    let at-overwrite-slot = c .before .before .before .before .before in
+    let at-if3 = at-overwrite-slot .before .before .before in
+    let at-if2 = at-if3 .before .before in
+    let at-if1 = at-if2 .before .before in
+    let s = at-if1 .before .before in
     let e = ended-corrupt nothing (withTuples (grid (now (s .args .words)) (now (s .args .times))))
     (grid (now (s .args .words)) (now (s .args .times)))
-    (grid (overwrite-slot .last .0) (overwrite-slot .last .1 .0))
+    (grid (at-overwrite-slot .overwrite-slot .last .0) (at-overwrite-slot .overwrite-slot .last .1 .0))
     (overwriteOn (grid (now (s .args .words)) (now (s .args .times))) _ _ _ _ _ _)
-    (rw (c .enum-told .given .1) at (overwrite-slot .ensures)) in
+    (rw (c .enum-told .given .1) at (at-overwrite-slot .overwrite-slot .ensures)) in
     unwritten (grid (now (s .args .words)) (now (s .args .times))) (s .args .cell)
     (at (now (s .args .words)) (FIRST + (s .args .cell)))
-    (at (now (s .args .words)) (COUNT + (at (now (s .args .words)) (FIRST + (s .args .cell))))) (if1 .left)
-    (first-at (now (s .args .words)) (now (s .args .times)) (s .args .cell) (if1 .left)) (if2 .left)
-    (count-at (now (s .args .words)) (now (s .args .times))
-    (at (now (s .args .words)) (FIRST + (s .args .cell))) (if2 .left)) _ _ _ _ (if3 .left) (e .0) _ (e .1)
+    (at (now (s .args .words)) (COUNT + (at (now (s .args .words)) (FIRST + (s .args .cell)))))
+    (at-if1 .if1 .left) (first-at (now (s .args .words)) (now (s .args .times)) (s .args .cell)
+    (at-if1 .if1 .left)) (at-if2 .if2 .left) (count-at (now (s .args .words)) (now (s .args .times))
+    (at (now (s .args .words)) (FIRST + (s .args .cell))) (at-if2 .if2 .left)) _ _ _ _ (at-if3 .if3 .left)
+    (e .0) _ (e .1)
 
 same-length-3 : tie.Need-same-length-3
 same-length-3 c = search needs
@@ -110,23 +112,23 @@ same-length-4 c = search needs
 
 returns-5 : tie.Need-returns-5
 returns-5 c =
-    let s = c .before .before .before .before .before .before .before .before .before .before .before .before .before .before in
-    let if1 = c .before .before .before .before .before .before .before .before .before .before .before .before .if1 in
-    let if2 = c .before .before .before .before .before .before .before .before .before .before .if2 in
-    let if3 = c .before .before .before .before .before .before .before .before .if3 in
-    let overwrite-slot = c .before .before .before .before .before .overwrite-slot in
+    let at-overwrite-slot = c .before .before .before .before .before in
+    let at-if3 = at-overwrite-slot .before .before .before in
+    let at-if2 = at-if3 .before .before in
+    let at-if1 = at-if2 .before .before in
+    let s = at-if1 .before .before in
     let e = ended-done nothing (withTuples (grid (now (s .args .words)) (now (s .args .times))))
     (grid (now (s .args .words)) (now (s .args .times)))
-    (grid (overwrite-slot .last .0) (overwrite-slot .last .1 .0))
+    (grid (at-overwrite-slot .overwrite-slot .last .0) (at-overwrite-slot .overwrite-slot .last .1 .0))
     (overwriteOn (grid (now (s .args .words)) (now (s .args .times))) _ _ _ _ _ _)
-    (rw (c .enum-told2 .given .1) at (overwrite-slot .ensures)) in
+    (rw (c .enum-told2 .given .1) at (at-overwrite-slot .overwrite-slot .ensures)) in
     written (grid (now (s .args .words)) (now (s .args .times))) (s .args .cell)
     (at (now (s .args .words)) (FIRST + (s .args .cell)))
-    (at (now (s .args .words)) (COUNT + (at (now (s .args .words)) (FIRST + (s .args .cell))))) (if1 .left)
-    (first-at (now (s .args .words)) (now (s .args .times)) (s .args .cell) (if1 .left)) (if2 .left)
-    (count-at (now (s .args .words)) (now (s .args .times))
-    (at (now (s .args .words)) (FIRST + (s .args .cell))) (if2 .left)) _ _ _ _ (if3 .left) (e .0) (e .1) _
-    (e .3)
+    (at (now (s .args .words)) (COUNT + (at (now (s .args .words)) (FIRST + (s .args .cell)))))
+    (at-if1 .if1 .left) (first-at (now (s .args .words)) (now (s .args .times)) (s .args .cell)
+    (at-if1 .if1 .left)) (at-if2 .if2 .left) (count-at (now (s .args .words)) (now (s .args .times))
+    (at (now (s .args .words)) (FIRST + (s .args .cell))) (at-if2 .if2 .left)) _ _ _ _ (at-if3 .if3 .left)
+    (e .0) (e .1) _ (e .3)
 
 pub write-tuple-spec : {M : Type 1} → statement M
 write-tuple-spec =

@@ -38,16 +38,17 @@ same-length c = search needs
 
 returns : tie.Need-returns
 returns c =
-    let s = c .before .before .before .before .before .before .before .before .before .before .before .before .before in
-    let current-place = c .before .before .before .before .before .before .before .before .before .before .current-place in
-    let cell-of = c .before .before .before .before .before .before .before .before .before .cell-of in
-    let here = c .before .before .before .before .before .before .before .here in
-    let if1 = c .before .before .before .before .if1 in
+    let at-if1 = c .before .before .before .before in
+    let at-here = at-if1 .before .before .before in
+    let at-cell-of = at-here .before .before in
+    let at-current-place = at-cell-of .before in
+    let s = at-current-place .before .before .before in
     choose-other (grid (now (s .args .words)) (now (s .args .times))) (s .args .oid) (s .args .x) (s .args .y)
-    (s .args .owner) (cell-of .ensures) _ _ _ (read-at
-    (hereOn (grid (now (s .args .words)) (now (s .args .times))) (s .args .oid) (s .args .x) (s .args .y))
-    (current-place .result) _ (current-place .ensures (now (s .args .times))) (here .given .1)) (if1 .taken)
-    (c .before .before .lock-new2 .ensures (now (s .args .times)))
+    (s .args .owner) (at-cell-of .cell-of .ensures) _ _ _
+    (read-at (hereOn (grid (now (s .args .words)) (now (s .args .times))) (s .args .oid) (s .args .x)
+    (s .args .y)) (at-current-place .current-place .result) _
+    (at-current-place .current-place .ensures (now (s .args .times))) (at-here .here .given .1))
+    (at-if1 .if1 .taken) (c .before .before .lock-new2 .ensures (now (s .args .times)))
 
 rewrite-tuple-requires : tie.Need-rewrite-tuple-requires
 rewrite-tuple-requires c κs = search needs
@@ -57,26 +58,27 @@ same-length-2 c = search needs
 
 returns-2 : tie.Need-returns-2
 returns-2 c =
-    let s = c .before .before .before .before .before .before in
-    let current-place = c .before .before .before .current-place in
+    let at-current-place = c .before .before .before in
+    let s = at-current-place .before .before .before in
     choose-corrupt (grid (now (s .args .words)) (now (s .args .times))) (s .args .oid) (s .args .x) (s .args .y)
     (s .args .owner) (read-corrupt (hereOn (grid (now (s .args .words)) (now (s .args .times))) (s .args .oid)
-    (s .args .x) (s .args .y)) (current-place .result) (current-place .ensures (now (s .args .times)))
-    (c .enum-told .given .1))
+    (s .args .x) (s .args .y)) (at-current-place .current-place .result)
+    (at-current-place .current-place .ensures (now (s .args .times))) (c .enum-told .given .1))
 
 same-length-3 : tie.Need-same-length-3
 same-length-3 c = search needs
 
 returns-3 : tie.Need-returns-3
 returns-3 c =
-    let s = c .before .before .before .before .before .before .before .before .before .before in
-    let current-place = c .before .before .before .before .before .before .before .current-place in
-    let cell-of = c .before .before .before .before .before .before .cell-of in
-    let enum-told2 = c .before .before .before .before .enum-told2 in
+    let at-enum-told2 = c .before .before .before .before in
+    let at-cell-of = at-enum-told2 .before .before in
+    let at-current-place = at-cell-of .before in
+    let s = at-current-place .before .before .before in
     choose-nowhere (grid (now (s .args .words)) (now (s .args .times))) (s .args .oid) (s .args .x) (s .args .y)
-    (s .args .owner) (cell-of .ensures) _ _ (read-nowhere
-    (hereOn (grid (now (s .args .words)) (now (s .args .times))) (s .args .oid) (s .args .x) (s .args .y))
-    (current-place .result) (current-place .ensures (now (s .args .times))) (enum-told2 .given .1))
+    (s .args .owner) (at-cell-of .cell-of .ensures) _ _
+    (read-nowhere (hereOn (grid (now (s .args .words)) (now (s .args .times))) (s .args .oid) (s .args .x)
+    (s .args .y)) (at-current-place .current-place .result)
+    (at-current-place .current-place .ensures (now (s .args .times))) (at-enum-told2 .enum-told2 .given .1))
     (c .before .before .lock-new .ensures (now (s .args .times)))
 
 same-length-4 : tie.Need-same-length-4
@@ -87,17 +89,18 @@ same-length-5 c = search needs
 
 returns-4 : tie.Need-returns-4
 returns-4 c =
-    let s = c .before .before .before .before .before .before .before .before .before .before .before .before .before .before .before in
-    let current-place = c .before .before .before .before .before .before .before .before .before .before .before .before .current-place in
-    let cell-of = c .before .before .before .before .before .before .before .before .before .before .before .cell-of in
-    let here = c .before .before .before .before .before .before .before .before .before .here in
-    let if1 = c .before .before .before .before .before .before .if1 in
-    let rewrite-tuple = c .before .before .before .rewrite-tuple in
+    let at-rewrite-tuple = c .before .before .before in
+    let at-if1 = at-rewrite-tuple .before .before .before in
+    let at-here = at-if1 .before .before .before in
+    let at-cell-of = at-here .before .before in
+    let at-current-place = at-cell-of .before in
+    let s = at-current-place .before .before .before in
     choose-same (grid (now (s .args .words)) (now (s .args .times))) (s .args .oid) (s .args .x) (s .args .y)
-    (s .args .owner) (cell-of .ensures) _ _ _ (read-at
-    (hereOn (grid (now (s .args .words)) (now (s .args .times))) (s .args .oid) (s .args .x) (s .args .y))
-    (current-place .result) _ (current-place .ensures (now (s .args .times))) (here .given .1)) (if1 .left)
-    (rewrite-tuple .ensures)
+    (s .args .owner) (at-cell-of .cell-of .ensures) _ _ _
+    (read-at (hereOn (grid (now (s .args .words)) (now (s .args .times))) (s .args .oid) (s .args .x)
+    (s .args .y)) (at-current-place .current-place .result) _
+    (at-current-place .current-place .ensures (now (s .args .times))) (at-here .here .given .1))
+    (at-if1 .if1 .left) (at-rewrite-tuple .rewrite-tuple .ensures)
 
 pub choose-cell-spec : {M : Type 1} → statement M
 choose-cell-spec =

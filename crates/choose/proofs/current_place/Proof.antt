@@ -31,11 +31,11 @@ enum-told c = search needs
 
 returns-2 : tie.Need-returns-2
 returns-2 c ts =
-    let s = c .before .before .before .before .before .before in
-    let on-grid = c .before .before .before .before .on-grid in
-    let if1 = c .before .before .before .if1 in
+    let at-if1 = c .before .before .before in
+    let at-on-grid = at-if1 .before in
+    let s = at-on-grid .before .before in
     here-missing (now (s .args .words)) ts (s .pre) (s .args .oid) (s .args .x) (s .args .y)
-    (sym (on-grid .ensures) ∙ not-false (on-grid .result) (if1 .left))
+    (sym (at-on-grid .on-grid .ensures) ∙ not-false (at-on-grid .on-grid .result) (at-if1 .if1 .left))
     (c .before .before .seek-object .ensures ts ∙ c .enum-told .given .1)
 
 sub-read-place : tie.Need-sub-read-place
@@ -52,14 +52,14 @@ read-place-requires c κs = search needs
 
 returns-3 : tie.Need-returns-3
 returns-3 c ts =
-    let s = c .before .before .before .before .before .before .before .before .before in
-    let on-grid = c .before .before .before .before .before .before .before .on-grid in
-    let if1 = c .before .before .before .before .before .before .if1 in
-    let seek-object = c .before .before .before .before .before .seek-object in
-    let found = c .before .before .before .s in
+    let at-s = c .before .before .before in
+    let at-seek-object = at-s .before .before in
+    let at-if1 = at-seek-object .before in
+    let at-on-grid = at-if1 .before in
+    let s = at-on-grid .before .before in
     here-read (now (s .args .words)) ts (s .pre) (s .args .oid) (s .args .x) (s .args .y)
-    (sym (on-grid .ensures) ∙ not-false (on-grid .result) (if1 .left))
-    (seek-object .ensures ts ∙ found .given .1) _ (c .read-place .ensures)
+    (sym (at-on-grid .on-grid .ensures) ∙ not-false (at-on-grid .on-grid .result) (at-if1 .if1 .left))
+    (at-seek-object .seek-object .ensures ts ∙ at-s .s .given .1) _ (c .read-place .ensures)
 
 pub current-place-spec : {M : Type 1} → statement M
 current-place-spec =

@@ -26,8 +26,8 @@ same-length c = search needs
 returns : tie.Need-returns
 unfolding andThen turnTells turnLeaves
 returns c =
-    let take-lock = c .before .before .before .before .take-lock in
-    let a = attempt-corrupt _ _ (take _ _ _) (take-lock .ensures) (c .enum-told .given .1) in
+    let at-take-lock = c .before .before .before .before in
+    let a = attempt-corrupt _ _ (take _ _ _) (at-take-lock .take-lock .ensures) (c .enum-told .given .1) in
     rw (a .0, a .1)
 
 same-length-2 : tie.Need-same-length-2
@@ -36,8 +36,8 @@ same-length-2 c = search needs
 returns-2 : tie.Need-returns-2
 unfolding andThen turnTells turnLeaves
 returns-2 c =
-    let take-lock = c .before .before .before .before .take-lock in
-    let a = attempt-blocked _ _ (take _ _ _) (take-lock .ensures) (c .enum-told2 .given .1) in
+    let at-take-lock = c .before .before .before .before in
+    let a = attempt-blocked _ _ (take _ _ _) (at-take-lock .take-lock .ensures) (c .enum-told2 .given .1) in
     rw (a .0, a .1)
 
 same-length-3 : tie.Need-same-length-3
@@ -46,8 +46,8 @@ same-length-3 c = search needs
 returns-3 : tie.Need-returns-3
 unfolding andThen turnTells turnLeaves
 returns-3 c =
-    let take-lock = c .before .before .before .before .take-lock in
-    rw (attempt-done _ _ (take _ _ _) (take-lock .ensures) (c .enum-told3 .given .1))
+    let at-take-lock = c .before .before .before .before in
+    rw (attempt-done _ _ (take _ _ _) (at-take-lock .take-lock .ensures) (c .enum-told3 .given .1))
 
 pub hold-cell-spec : {M : Type 1} → statement M
 hold-cell-spec =

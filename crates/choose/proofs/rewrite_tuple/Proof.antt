@@ -39,13 +39,14 @@ same-length-2 c = search needs
 
 returns-2 : tie.Need-returns-2
 returns-2 c =
-    let s = c .before .before .before .before .before .before .before .before .before .before .before in
-    let if1 = c .before .before .before .before .before .before .before .before .if1 in
-    let overwrite-slot = c .before .before .before .before .before .overwrite-slot in
+    let at-overwrite-slot = c .before .before .before .before .before in
+    let at-if1 = at-overwrite-slot .before .before .before in
+    let s = at-if1 .before .before .before in
     rewrite-lost (grid (now (s .args .words)) (now (s .args .times))) (s .args .place) (s .args .oid) (s .args .x)
     (s .args .y) (at (now (s .args .words)) CLOCK) (clock-at (now (s .args .words)) (now (s .args .times)))
-    (if1 .left) (grid (overwrite-slot .last .0) (overwrite-slot .last .1 .0))
-    (rw (c .enum-told .given .1) at (overwrite-slot .ensures))
+    (at-if1 .if1 .left) (grid (at-overwrite-slot .overwrite-slot .last .0)
+    (at-overwrite-slot .overwrite-slot .last .1 .0))
+    (rw (c .enum-told .given .1) at (at-overwrite-slot .overwrite-slot .ensures))
 
 enum-told-2 : tie.Need-enum-told-2
 enum-told-2 c = search needs
@@ -61,15 +62,16 @@ same-length-4 c = search needs
 
 returns-3 : tie.Need-returns-3
 returns-3 c =
-    let s = c .before .before .before .before .before .before .before .before .before .before .before in
-    let if1 = c .before .before .before .before .before .before .before .before .if1 in
-    let overwrite-slot = c .before .before .before .before .before .overwrite-slot in
+    let at-overwrite-slot = c .before .before .before .before .before in
+    let at-if1 = at-overwrite-slot .before .before .before in
+    let s = at-if1 .before .before .before in
     rewrite-done (grid (now (s .args .words)) (now (s .args .times))) (s .args .place) (s .args .oid) (s .args .x)
     (s .args .y) (at (now (s .args .words)) CLOCK) (clock-at (now (s .args .words)) (now (s .args .times)))
-    (if1 .left) (grid (overwrite-slot .last .0) (overwrite-slot .last .1 .0))
-    (rw (c .enum-told2 .given .1) at (overwrite-slot .ensures)) _
-    (set-clock (overwrite-slot .last .0) (overwrite-slot .last .1 .0) (overwrite-slot .kept .0 ∙ s .pre .0)
-    ((at (now (s .args .words)) CLOCK) + 1))
+    (at-if1 .if1 .left) (grid (at-overwrite-slot .overwrite-slot .last .0)
+    (at-overwrite-slot .overwrite-slot .last .1 .0))
+    (rw (c .enum-told2 .given .1) at (at-overwrite-slot .overwrite-slot .ensures)) _
+    (set-clock (at-overwrite-slot .overwrite-slot .last .0) (at-overwrite-slot .overwrite-slot .last .1 .0)
+    (at-overwrite-slot .overwrite-slot .kept .0 ∙ s .pre .0) ((at (now (s .args .words)) CLOCK) + 1))
 
 pub rewrite-tuple-spec : {M : Type 1} → statement M
 rewrite-tuple-spec =

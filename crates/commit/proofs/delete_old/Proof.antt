@@ -16,8 +16,8 @@ slice-read-last c = search needs
 returns : tie.Need-returns
 returns c =
     let s = c .before .before .before in
-    delete-late (grid (now (s .args .words)) (now (s .args .times))) (s .args .place) (at (now (s .args .words)) CLOCK)
-    (clock-at (now (s .args .words)) (now (s .args .times))) (c .if1 .taken)
+    delete-late (grid (now (s .args .words)) (now (s .args .times))) (s .args .place)
+    (at (now (s .args .words)) CLOCK) (clock-at (now (s .args .words)) (now (s .args .times))) (c .if1 .taken)
 
 add-time : tie.Need-add-time
 add-time c = search needs
@@ -33,12 +33,13 @@ same-length c = search needs
 
 returns-2 : tie.Need-returns-2
 returns-2 c =
-    let s = c .before .before .before .before .before .before .before .before in
-    let if1 = c .before .before .before .before .before .if1 in
-    let delete-tuple = c .before .before .before .delete-tuple in
+    let at-delete-tuple = c .before .before .before in
+    let at-if1 = at-delete-tuple .before .before in
+    let s = at-if1 .before .before .before in
     delete-lost (now (s .args .words)) (now (s .args .times)) (s .pre .0) (s .args .place)
-    (at (now (s .args .words)) CLOCK) (clock-at (now (s .args .words)) (now (s .args .times))) (if1 .left)
-    (delete-tuple .last .0) (rw (c .enum-told .given .1) at (delete-tuple .ensures))
+    (at (now (s .args .words)) CLOCK) (clock-at (now (s .args .words)) (now (s .args .times)))
+    (at-if1 .if1 .left) (at-delete-tuple .delete-tuple .last .0)
+    (rw (c .enum-told .given .1) at (at-delete-tuple .delete-tuple .ensures))
 
 enum-told-2 : tie.Need-enum-told-2
 enum-told-2 c = search needs
@@ -54,12 +55,13 @@ same-length-3 c = search needs
 
 returns-3 : tie.Need-returns-3
 returns-3 c =
-    let s = c .before .before .before .before .before .before .before .before in
-    let if1 = c .before .before .before .before .before .if1 in
-    let delete-tuple = c .before .before .before .delete-tuple in
+    let at-delete-tuple = c .before .before .before in
+    let at-if1 = at-delete-tuple .before .before in
+    let s = at-if1 .before .before .before in
     delete-done (now (s .args .words)) (now (s .args .times)) (s .pre .0) (s .args .place)
-    (at (now (s .args .words)) CLOCK) (clock-at (now (s .args .words)) (now (s .args .times))) (if1 .left)
-    (delete-tuple .last .0) (rw (c .enum-told2 .given .1) at (delete-tuple .ensures))
+    (at (now (s .args .words)) CLOCK) (clock-at (now (s .args .words)) (now (s .args .times)))
+    (at-if1 .if1 .left) (at-delete-tuple .delete-tuple .last .0)
+    (rw (c .enum-told2 .given .1) at (at-delete-tuple .delete-tuple .ensures))
 
 pub delete-old-spec : {M : Type 1} → statement M
 delete-old-spec =

@@ -34,12 +34,12 @@ same-length c = search needs
 returns : tie.Need-returns
 unfolding grid
 returns c ts =
-    let s = c .before .before .before .before .before .before .before in
-    let raise-count = c .before .before .before .before .raise-count in
-    raise-lost (grid (now (s .args .words)) ts) _ (s .args .place) (raise-count .last .0)
-    (rw (c .enum-told .given .1) at (raise-count .ensures))
-    (put-count (now (s .args .words)) ts (s .pre) (raise-count .last .0)
-    (raise-count .kept .0 ∙ count# (now (s .args .words)) (s .pre)))
+    let at-raise-count = c .before .before .before .before in
+    let s = at-raise-count .before .before .before in
+    raise-lost (grid (now (s .args .words)) ts) _ (s .args .place) (at-raise-count .raise-count .last .0)
+    (rw (c .enum-told .given .1) at (at-raise-count .raise-count .ensures))
+    (put-count (now (s .args .words)) ts (s .pre) (at-raise-count .raise-count .last .0)
+    (at-raise-count .raise-count .kept .0 ∙ count# (now (s .args .words)) (s .pre)))
 
 same-length-2 : tie.Need-same-length-2
 same-length-2 c = search needs
@@ -47,12 +47,12 @@ same-length-2 c = search needs
 returns-2 : tie.Need-returns-2
 unfolding grid
 returns-2 c ts =
-    let s = c .before .before .before .before .before .before .before in
-    let raise-count = c .before .before .before .before .raise-count in
-    raise-done (grid (now (s .args .words)) ts) _ (s .args .place) (raise-count .last .0)
-    (rw (c .enum-told2 .given .1) at (raise-count .ensures))
-    (put-count (now (s .args .words)) ts (s .pre) (raise-count .last .0)
-    (raise-count .kept .0 ∙ count# (now (s .args .words)) (s .pre)))
+    let at-raise-count = c .before .before .before .before in
+    let s = at-raise-count .before .before .before in
+    raise-done (grid (now (s .args .words)) ts) _ (s .args .place) (at-raise-count .raise-count .last .0)
+    (rw (c .enum-told2 .given .1) at (at-raise-count .raise-count .ensures))
+    (put-count (now (s .args .words)) ts (s .pre) (at-raise-count .raise-count .last .0)
+    (at-raise-count .raise-count .kept .0 ∙ count# (now (s .args .words)) (s .pre)))
 
 pub raise-spec : {M : Type 1} → statement M
 raise-spec =

@@ -33,11 +33,11 @@ same-length-2 c = search needs
 
 returns-2 : tie.Need-returns-2
 returns-2 c ts =
-    let s = c .before .before .before .before .before .before .before in
-    let seek-object = c .before .before .before .before .seek-object in
+    let at-seek-object = c .before .before .before .before in
+    let s = at-seek-object .before .before .before in
     switch-far (grid (now (s .args .words)) ts) (s .args .place) (s .args .oid)
-    (seek-object .ensures ts ∙ c .before .before .s .given .1) (cells-there (now (s .args .words)) ts (s .pre))
-    (c .if1 .taken)
+    (at-seek-object .seek-object .ensures ts ∙ c .before .before .s .given .1)
+    (cells-there (now (s .args .words)) ts (s .pre)) (c .if1 .taken)
 
 shift-entry-requires : tie.Need-shift-entry-requires
 shift-entry-requires c κs = search needs
@@ -62,28 +62,30 @@ same-length-3 c = search needs
 
 returns-3 : tie.Need-returns-3
 returns-3 c ts =
-    let s = c .before .before .before .before .before .before .before .before .before .before .before .before .before in
-    let seek-object = c .before .before .before .before .before .before .before .before .before .before .seek-object in
-    let found = c .before .before .before .before .before .before .before .before .s in
-    let shift-entry = c .before .before .before .before .shift-entry in
+    let at-shift-entry = c .before .before .before .before in
+    let at-s = at-shift-entry .before .before .before .before in
+    let at-seek-object = at-s .before .before in
+    let s = at-seek-object .before .before .before in
     switch-lost (grid (now (s .args .words)) ts) (s .args .place) (s .args .oid)
-    (seek-object .ensures ts ∙ found .given .1) (cells-there (now (s .args .words)) ts (s .pre))
-    (grid (shift-entry .last .0) ts) (shift-entry .ensures ts) (c .enum-told2 .given .1)
+    (at-seek-object .seek-object .ensures ts ∙ at-s .s .given .1)
+    (cells-there (now (s .args .words)) ts (s .pre)) (grid (at-shift-entry .shift-entry .last .0) ts)
+    (at-shift-entry .shift-entry .ensures ts) (c .enum-told2 .given .1)
 
 same-length-4 : tie.Need-same-length-4
 same-length-4 c = search needs
 
 returns-4 : tie.Need-returns-4
 returns-4 c ts =
-    let s = c .before .before .before .before .before .before .before .before .before .before .before .before .before .before .before .before .before in
-    let seek-object = c .before .before .before .before .before .before .before .before .before .before .before .before .before .before .seek-object in
-    let found = c .before .before .before .before .before .before .before .before .before .before .before .before .s in
-    let if1 = c .before .before .before .before .before .before .before .before .before .before .if1 in
-    let shift-entry = c .before .before .before .before .before .before .before .before .shift-entry in
-    let enum-told3 = c .before .before .before .before .enum-told3 in
+    let at-enum-told3 = c .before .before .before .before in
+    let at-shift-entry = at-enum-told3 .before .before .before .before in
+    let at-if1 = at-shift-entry .before .before in
+    let at-s = at-if1 .before .before in
+    let at-seek-object = at-s .before .before in
+    let s = at-seek-object .before .before .before in
     switch-nowhere (grid (now (s .args .words)) ts) (s .args .place) (s .args .oid)
-    (seek-object .ensures ts ∙ found .given .1) (cells-there (now (s .args .words)) ts (s .pre))
-    (grid (shift-entry .last .0) ts) (shift-entry .ensures ts) (enum-told3 .given .1) (if1 .left) _
+    (at-seek-object .seek-object .ensures ts ∙ at-s .s .given .1)
+    (cells-there (now (s .args .words)) ts (s .pre)) (grid (at-shift-entry .shift-entry .last .0) ts)
+    (at-shift-entry .shift-entry .ensures ts) (at-enum-told3 .enum-told3 .given .1) (at-if1 .if1 .left) _
     (c .before .before .free-cell .ensures ts)
 
 same-length-5 : tie.Need-same-length-5
@@ -91,15 +93,16 @@ same-length-5 c = search needs
 
 returns-5 : tie.Need-returns-5
 returns-5 c ts =
-    let s = c .before .before .before .before .before .before .before .before .before .before .before .before .before .before .before .before .before .before in
-    let seek-object = c .before .before .before .before .before .before .before .before .before .before .before .before .before .before .before .seek-object in
-    let found = c .before .before .before .before .before .before .before .before .before .before .before .before .before .s in
-    let if1 = c .before .before .before .before .before .before .before .before .before .before .before .if1 in
-    let shift-entry = c .before .before .before .before .before .before .before .before .before .shift-entry in
-    let old = c .before .before .before .before .before .old in
+    let at-old = c .before .before .before .before .before in
+    let at-shift-entry = at-old .before .before .before .before in
+    let at-if1 = at-shift-entry .before .before in
+    let at-s = at-if1 .before .before in
+    let at-seek-object = at-s .before .before in
+    let s = at-seek-object .before .before .before in
     switch-at (grid (now (s .args .words)) ts) (s .args .place) (s .args .oid)
-    (seek-object .ensures ts ∙ found .given .1) (cells-there (now (s .args .words)) ts (s .pre))
-    (grid (shift-entry .last .0) ts) (shift-entry .ensures ts) _ (old .given .1) (if1 .left) _
+    (at-seek-object .seek-object .ensures ts ∙ at-s .s .given .1)
+    (cells-there (now (s .args .words)) ts (s .pre)) (grid (at-shift-entry .shift-entry .last .0) ts)
+    (at-shift-entry .shift-entry .ensures ts) _ (at-old .old .given .1) (at-if1 .if1 .left) _
     (c .before .before .free-cell2 .ensures ts)
 
 pub switch-place-spec : {M : Type 1} → statement M

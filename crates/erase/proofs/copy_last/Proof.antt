@@ -49,16 +49,18 @@ same-length-3 c = search needs
 
 returns-2 : tie.Need-returns-2
 returns-2 c =
-    let s = c .before .before .before .before .before .before .before .before .before .before .before .before .before .before in
+    let at-copy-slot = c .before .before .before .before .before in
+    let at-found = at-copy-slot .before .before .before .before in
+    let at-last-tuple = at-found .before .before in
+    let s = at-last-tuple .before .before .before in
     let e = ended-corrupt nothing (withTuples (grid (now (s .args .words)) (now (s .args .times))))
     (grid (now (s .args .words)) (now (s .args .times)))
-    (grid (c .before .before .before .before .before .copy-slot .last .0)
-    (c .before .before .before .before .before .copy-slot .last .1 .0))
+    (grid (at-copy-slot .copy-slot .last .0) (at-copy-slot .copy-slot .last .1 .0))
     (copyOn (grid (now (s .args .words)) (now (s .args .times))) _ _ _ _)
-    (rw (c .enum-told2 .given .1) at (c .before .before .before .before .before .copy-slot .ensures)) in
+    (rw (c .enum-told2 .given .1) at (at-copy-slot .copy-slot .ensures)) in
     copy-lost (grid (now (s .args .words)) (now (s .args .times))) _ (s .args .place) (s .args .moved) _
     (last-at (lastOn (grid (now (s .args .words)) (now (s .args .times))) ((s .args .place) .cell)) _
-    (c .before .before .before .before .before .before .before .before .before .before .before .last-tuple .ensures (now (s .args .times))) _ (c .before .before .before .before .before .before .before .before .before .found .given .1)) (e .0) (e .1)
+    (at-last-tuple .last-tuple .ensures (now (s .args .times))) _ (at-found .found .given .1)) (e .0) (e .1)
 
 same-length-4 : tie.Need-same-length-4
 same-length-4 c = search needs
@@ -68,16 +70,19 @@ same-length-5 c = search needs
 
 returns-3 : tie.Need-returns-3
 returns-3 c =
-    let s = c .before .before .before .before .before .before .before .before .before .before .before .before .before .before in
+    let at-copy-slot = c .before .before .before .before .before in
+    let at-found = at-copy-slot .before .before .before .before in
+    let at-last-tuple = at-found .before .before in
+    let s = at-last-tuple .before .before .before in
     let e = ended-done nothing (withTuples (grid (now (s .args .words)) (now (s .args .times))))
     (grid (now (s .args .words)) (now (s .args .times)))
-    (grid (c .before .before .before .before .before .copy-slot .last .0)
-    (c .before .before .before .before .before .copy-slot .last .1 .0))
+    (grid (at-copy-slot .copy-slot .last .0) (at-copy-slot .copy-slot .last .1 .0))
     (copyOn (grid (now (s .args .words)) (now (s .args .times))) _ _ _ _)
-    (rw (c .enum-told3 .given .1) at (c .before .before .before .before .before .copy-slot .ensures)) in
+    (rw (c .enum-told3 .given .1) at (at-copy-slot .copy-slot .ensures)) in
     copy-done (grid (now (s .args .words)) (now (s .args .times))) _ (s .args .place) (s .args .moved) _
     (last-at (lastOn (grid (now (s .args .words)) (now (s .args .times))) ((s .args .place) .cell)) _
-    (c .before .before .before .before .before .before .before .before .before .before .before .last-tuple .ensures (now (s .args .times))) _ (c .before .before .before .before .before .before .before .before .before .found .given .1)) (e .0) (e .1) (e .3)
+    (at-last-tuple .last-tuple .ensures (now (s .args .times))) _ (at-found .found .given .1)) (e .0) (e .1)
+    (e .3)
 
 pub copy-last-spec : {M : Type 1} → statement M
 copy-last-spec =

@@ -51,13 +51,13 @@ same-length-2 c = search needs
 
 returns-2 : tie.Need-returns-2
 returns-2 c =
-    let s = c .before .before .before .before .before .before .before .before .before in
-    let seek-object = c .before .before .before .before .before .before .seek-object in
-    let found = c .before .before .before .before .s in
+    let at-s = c .before .before .before .before in
+    let at-seek-object = at-s .before .before in
+    let s = at-seek-object .before .before .before in
     moved-unsigned (grid (now (s .args .words)) (now (s .args .times))) (s .args .place) (s .args .moved) (s .args .i)
     (sized (now (s .args .words)) (now (s .args .times)) (s .pre .0)) (s .pre .2) _
-    (found-below _ _ (seek-object .ensures (now (s .args .times)) ∙ found .given .1))
-    (seek-object .ensures (now (s .args .times)) ∙ found .given .1)
+    (found-below _ _ (at-seek-object .seek-object .ensures (now (s .args .times)) ∙ at-s .s .given .1))
+    (at-seek-object .seek-object .ensures (now (s .args .times)) ∙ at-s .s .given .1)
     (signed-in (now (s .args .words)) (now (s .args .times)) (s .pre .0) (s .args .place .bucket)
     (s .args .place .slot) (sign-corrupt (sign (now (s .args .times)) (s .args .place .bucket)
     (s .args .place .slot)) (c .before .before .read-sign .result) (c .before .before .read-sign .ensures)
@@ -77,17 +77,17 @@ same-length-3 c = search needs
 
 returns-3 : tie.Need-returns-3
 returns-3 c =
-    let s = c .before .before .before .before .before .before .before .before .before .before .before in
-    let seek-object = c .before .before .before .before .before .before .before .before .seek-object in
-    let found = c .before .before .before .before .before .before .s in
-    let read-sign = c .before .before .before .before .read-sign in
-    let match2 = c .before .before .before .match2 in
-    let t = sign-done (sign (now (s .args .times)) (s .args .place .bucket) (s .args .place .slot)) (read-sign .result)
-    (read-sign .ensures) (match2 .keys2) in
+    let at-match2 = c .before .before .before in
+    let at-read-sign = at-match2 .before in
+    let at-s = at-read-sign .before .before in
+    let at-seek-object = at-s .before .before in
+    let s = at-seek-object .before .before .before in
+    let t = sign-done (sign (now (s .args .times)) (s .args .place .bucket) (s .args .place .slot))
+    (at-read-sign .read-sign .result) (at-read-sign .read-sign .ensures) (at-match2 .match2 .keys2) in
     moved-outside (grid (now (s .args .words)) (now (s .args .times))) (s .args .place) (s .args .moved) (s .args .i)
     (sized (now (s .args .words)) (now (s .args .times)) (s .pre .0)) (s .pre .2) _
-    (found-below _ _ (seek-object .ensures [] ∙ found .given .1))
-    (seek-object .ensures (now (s .args .times)) ∙ found .given .1) (t .0)
+    (found-below _ _ (at-seek-object .seek-object .ensures [] ∙ at-s .s .given .1))
+    (at-seek-object .seek-object .ensures (now (s .args .times)) ∙ at-s .s .given .1) (t .0)
     (signed-in (now (s .args .words)) (now (s .args .times)) (s .pre .0) (s .args .place .bucket)
     (s .args .place .slot) (t .1)) (number-corrupt (encode (s .args .place)) _
     (c .before .before .encode-place .ensures) (c .enum-told3 .given .1))
@@ -106,22 +106,26 @@ slice-write-words c = search needs
 
 add-words-2 : tie.Need-add-words-2
 add-words-2 c =
-    let seek-object = c .before .before .before .before .before .before .before .before .before .before .seek-object in
-    let found = c .before .before .before .before .before .before .before .before .s in
-    omega (arith, (found-below _ _ (seek-object .ensures [] ∙ found .given .1)))
+    let at-s = c .before .before .before .before .before .before .before .before in
+    let at-seek-object = at-s .before .before in
+    omega (arith, (found-below _ _ (at-seek-object .seek-object .ensures [] ∙ at-s .s .given .1)))
 
 mul-words-2 : tie.Need-mul-words-2
 mul-words-2 c =
-    let seek-object = c .before .before .before .before .before .before .before .before .before .before .seek-object in
-    let found = c .before .before .before .before .before .before .before .before .s in
-    omega (arith, (found-below _ _ (seek-object .ensures [] ∙ found .given .1)))
+    let at-s = c .before .before .before .before .before .before .before .before in
+    let at-seek-object = at-s .before .before in
+    omega (arith, (found-below _ _ (at-seek-object .seek-object .ensures [] ∙ at-s .s .given .1)))
 
 slice-write-words-2 : tie.Need-slice-write-words-2
 slice-write-words-2 c =
-    let pre = c .before .before .before .before .before .before .before .before .before .before .before .before .before .pre in
-    let seek-object = c .before .before .before .before .before .before .before .before .before .before .seek-object in
-    let found = c .before .before .before .before .before .before .before .before .s in
-    rw length-set (omega (arith, (found-below _ _ (seek-object .ensures [] ∙ found .given .1)), pre .0))
+    let at-s = c .before .before .before .before .before .before .before .before in
+    let at-seek-object = at-s .before .before in
+    let s = at-seek-object .before .before .before in
+    rw length-set (omega (
+      arith,
+      (found-below _ _ (at-seek-object .seek-object .ensures [] ∙ at-s .s .given .1)),
+      s .pre .0,
+    ))
 
 add-words-3 : tie.Need-add-words-3
 add-words-3 c = search needs
@@ -131,13 +135,14 @@ mul-words-3 c = search needs
 
 slice-write-words-3 : tie.Need-slice-write-words-3
 slice-write-words-3 c =
-    let s = c .before .before .before .before .before .before .before .before .before .before .before .before .before in
-    let encode-place = c .before .before .before .before .encode-place in
+    let at-encode-place = c .before .before .before .before in
+    let s = at-encode-place .before .before .before .before .before .before .before .before .before in
     after-two (now (s .args .words)) (s .pre .0) _ _ _ _ _
     (omega (
       arith,
-      (numbered-cell (s .args .place) _ (number-done (encode (s .args .place)) _
-          (encode-place .ensures) _ (c .before .before .n .given .1))),
+      (numbered-cell (s .args .place) _
+          (number-done (encode (s .args .place)) _ (at-encode-place .encode-place .ensures) _
+          (c .before .before .n .given .1))),
     ))
 
 enum-told-4 : tie.Need-enum-told-4
@@ -145,92 +150,101 @@ enum-told-4 c = search needs
 
 add-words-4 : tie.Need-add-words-4
 add-words-4 c =
-    let seek-object = c .before .before .before .before .before .before .before .before .before .before .before .before .seek-object in
-    let found = c .before .before .before .before .before .before .before .before .before .before .s in
-    omega (arith, (found-below _ _ (seek-object .ensures [] ∙ found .given .1)))
+    let at-s = c .before .before .before .before .before .before .before .before .before .before in
+    let at-seek-object = at-s .before .before in
+    omega (arith, (found-below _ _ (at-seek-object .seek-object .ensures [] ∙ at-s .s .given .1)))
 
 mul-words-4 : tie.Need-mul-words-4
 mul-words-4 c =
-    let seek-object = c .before .before .before .before .before .before .before .before .before .before .before .before .seek-object in
-    let found = c .before .before .before .before .before .before .before .before .before .before .s in
-    omega (arith, (found-below _ _ (seek-object .ensures [] ∙ found .given .1)))
+    let at-s = c .before .before .before .before .before .before .before .before .before .before in
+    let at-seek-object = at-s .before .before in
+    omega (arith, (found-below _ _ (at-seek-object .seek-object .ensures [] ∙ at-s .s .given .1)))
 
 slice-write-words-4 : tie.Need-slice-write-words-4
 slice-write-words-4 c =
-    let s = c .before .before .before .before .before .before .before .before .before .before .before .before .before .before .before in
-    let seek-object = c .before .before .before .before .before .before .before .before .before .before .before .before .seek-object in
-    let found = c .before .before .before .before .before .before .before .before .before .before .s in
+    let at-s = c .before .before .before .before .before .before .before .before .before .before in
+    let at-seek-object = at-s .before .before in
+    let s = at-seek-object .before .before .before in
     after-three (now (s .args .words)) (s .pre .0) _ _ _ _ _
-    (omega (arith, (found-below _ _ (seek-object .ensures (now (s .args .times)) ∙ found .given .1)))) _ _
+    (omega (
+      arith,
+      (found-below _ _ (at-seek-object .seek-object .ensures (now (s .args .times)) ∙
+          at-s .s .given .1)),
+    )) _ _
 
 same-length-4 : tie.Need-same-length-4
 same-length-4 c = search needs
 
 returns-4 : tie.Need-returns-4
 returns-4 c =
-    let s = c .before .before .before .before .before .before .before .before .before .before .before .before .before .before .before in
-    let seek-object = c .before .before .before .before .before .before .before .before .before .before .before .before .seek-object in
-    let found = c .before .before .before .before .before .before .before .before .before .before .s in
-    let read-sign = c .before .before .before .before .before .before .before .before .read-sign in
-    let encode-place = c .before .before .before .before .before .before .encode-place in
-    let n = c .before .before .before .before .n in
+    let at-n = c .before .before .before .before in
+    let at-encode-place = at-n .before .before in
+    let at-read-sign = at-encode-place .before .before in
+    let at-s = at-read-sign .before .before in
+    let at-seek-object = at-s .before .before in
+    let s = at-seek-object .before .before .before in
     moved-deleted (grid (now (s .args .words)) (now (s .args .times))) (s .args .place) (s .args .moved) (s .args .i)
     (sized (now (s .args .words)) (now (s .args .times)) (s .pre .0)) (s .pre .2) _
-    (found-below _ _ (seek-object .ensures (now (s .args .times)) ∙ found .given .1))
-    (seek-object .ensures (now (s .args .times)) ∙ found .given .1) _
-    (number-done (encode (s .args .place)) _ (encode-place .ensures) _ (n .given .1)) _
+    (found-below _ _ (at-seek-object .seek-object .ensures (now (s .args .times)) ∙ at-s .s .given .1))
+    (at-seek-object .seek-object .ensures (now (s .args .times)) ∙ at-s .s .given .1) _
+    (number-done (encode (s .args .place)) _ (at-encode-place .encode-place .ensures) _ (at-n .n .given .1)) _
     (signed-in (now (s .args .words)) (now (s .args .times)) (s .pre .0) (s .args .place .bucket)
     (s .args .place .slot) (sign-deleted (sign (now (s .args .times)) (s .args .place .bucket)
-    (s .args .place .slot)) (read-sign .result) (read-sign .ensures) (c .enum-told4 .given .1)))
-    (stored-previous (now (s .args .words)) (now (s .args .times)) (s .pre .0) (s .args .i)
-    (s .args .place .cell) (s .pre .2) (numbered-cell (s .args .place) _
-    (number-done (encode (s .args .place)) _ (encode-place .ensures) _ (n .given .1))) _ _
-    (found-below _ _ (seek-object .ensures [] ∙ found .given .1)))
+    (s .args .place .slot)) (at-read-sign .read-sign .result) (at-read-sign .read-sign .ensures)
+    (c .enum-told4 .given .1))) (stored-previous (now (s .args .words)) (now (s .args .times)) (s .pre .0)
+    (s .args .i) (s .args .place .cell) (s .pre .2) (numbered-cell (s .args .place) _
+    (number-done (encode (s .args .place)) _ (at-encode-place .encode-place .ensures) _ (at-n .n .given .1)))
+    _ _ (found-below _ _ (at-seek-object .seek-object .ensures [] ∙ at-s .s .given .1)))
 
 add-words-5 : tie.Need-add-words-5
 add-words-5 c =
-    let seek-object = c .before .before .before .before .before .before .before .before .before .before .before .seek-object in
-    let found = c .before .before .before .before .before .before .before .before .before .s in
-    omega (arith, (found-below _ _ (seek-object .ensures [] ∙ found .given .1)))
+    let at-s = c .before .before .before .before .before .before .before .before .before in
+    let at-seek-object = at-s .before .before in
+    omega (arith, (found-below _ _ (at-seek-object .seek-object .ensures [] ∙ at-s .s .given .1)))
 
 mul-words-5 : tie.Need-mul-words-5
 mul-words-5 c =
-    let seek-object = c .before .before .before .before .before .before .before .before .before .before .before .seek-object in
-    let found = c .before .before .before .before .before .before .before .before .before .s in
-    omega (arith, (found-below _ _ (seek-object .ensures [] ∙ found .given .1)))
+    let at-s = c .before .before .before .before .before .before .before .before .before in
+    let at-seek-object = at-s .before .before in
+    omega (arith, (found-below _ _ (at-seek-object .seek-object .ensures [] ∙ at-s .s .given .1)))
 
 slice-write-words-5 : tie.Need-slice-write-words-5
 slice-write-words-5 c =
-    let s = c .before .before .before .before .before .before .before .before .before .before .before .before .before .before in
-    let seek-object = c .before .before .before .before .before .before .before .before .before .before .before .seek-object in
-    let found = c .before .before .before .before .before .before .before .before .before .s in
+    let at-s = c .before .before .before .before .before .before .before .before .before in
+    let at-seek-object = at-s .before .before in
+    let s = at-seek-object .before .before .before in
     after-three (now (s .args .words)) (s .pre .0) _ _ _ _ _
-    (omega (arith, (found-below _ _ (seek-object .ensures (now (s .args .times)) ∙ found .given .1)))) _ _
+    (omega (
+      arith,
+      (found-below _ _ (at-seek-object .seek-object .ensures (now (s .args .times)) ∙
+          at-s .s .given .1)),
+    )) _ _
 
 same-length-5 : tie.Need-same-length-5
 same-length-5 c = search needs
 
 returns-5 : tie.Need-returns-5
 returns-5 c =
-    let s = c .before .before .before .before .before .before .before .before .before .before .before .before .before .before in
-    let seek-object = c .before .before .before .before .before .before .before .before .before .before .before .seek-object in
-    let found = c .before .before .before .before .before .before .before .before .before .s in
-    let read-sign = c .before .before .before .before .before .before .before .read-sign in
-    let match2 = c .before .before .before .before .before .before .match2 in
-    let encode-place = c .before .before .before .before .before .encode-place in
-    let n = c .before .before .before .n in
+    let at-n = c .before .before .before in
+    let at-encode-place = at-n .before .before in
+    let at-match2 = at-encode-place .before in
+    let at-read-sign = at-match2 .before in
+    let at-s = at-read-sign .before .before in
+    let at-seek-object = at-s .before .before in
+    let s = at-seek-object .before .before .before in
     moved-current (grid (now (s .args .words)) (now (s .args .times))) (s .args .place) (s .args .moved) (s .args .i)
     (sized (now (s .args .words)) (now (s .args .times)) (s .pre .0)) (s .pre .2) _
-    (found-below _ _ (seek-object .ensures (now (s .args .times)) ∙ found .given .1))
-    (seek-object .ensures (now (s .args .times)) ∙ found .given .1) _
-    (number-done (encode (s .args .place)) _ (encode-place .ensures) _ (n .given .1)) _
+    (found-below _ _ (at-seek-object .seek-object .ensures (now (s .args .times)) ∙ at-s .s .given .1))
+    (at-seek-object .seek-object .ensures (now (s .args .times)) ∙ at-s .s .given .1) _
+    (number-done (encode (s .args .place)) _ (at-encode-place .encode-place .ensures) _ (at-n .n .given .1)) _
     (signed-in (now (s .args .words)) (now (s .args .times)) (s .pre .0) (s .args .place .bucket)
     (s .args .place .slot) (sign-current (sign (now (s .args .times)) (s .args .place .bucket)
-    (s .args .place .slot)) (read-sign .result) (read-sign .ensures) (match2 .keys2) (c .match4 .keys2)))
-    (stored-current (now (s .args .words)) (now (s .args .times)) (s .pre .0) (s .args .i)
-    (s .args .place .cell) (s .pre .2) (numbered-cell (s .args .place) _
-    (number-done (encode (s .args .place)) _ (encode-place .ensures) _ (n .given .1))) _ _
-    (found-below _ _ (seek-object .ensures [] ∙ found .given .1)))
+    (s .args .place .slot)) (at-read-sign .read-sign .result) (at-read-sign .read-sign .ensures)
+    (at-match2 .match2 .keys2) (c .match4 .keys2))) (stored-current (now (s .args .words))
+    (now (s .args .times)) (s .pre .0) (s .args .i) (s .args .place .cell) (s .pre .2)
+    (numbered-cell (s .args .place) _ (number-done (encode (s .args .place)) _
+    (at-encode-place .encode-place .ensures) _ (at-n .n .given .1))) _ _
+    (found-below _ _ (at-seek-object .seek-object .ensures [] ∙ at-s .s .given .1)))
 
 pub correct-moved-spec : {M : Type 1} → statement M
 correct-moved-spec =

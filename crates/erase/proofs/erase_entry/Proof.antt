@@ -35,22 +35,22 @@ returns c =
 
 correct-moved-requires : tie.Need-correct-moved-requires
 correct-moved-requires c κs =
-    let s = c .before .before .before .before .before .before .before .before in
-    let seek-object = c .before .before .before .before .before .seek-object in
-    let found = c .before .before .before .s in
-    (s .pre .0, s .pre .1, (found-below _ _ (seek-object .ensures [] ∙ found .given .1)))
+    let at-s = c .before .before .before in
+    let at-seek-object = at-s .before .before in
+    let s = at-seek-object .before .before .before in
+    (s .pre .0, s .pre .1, (found-below _ _ (at-seek-object .seek-object .ensures [] ∙ at-s .s .given .1)))
 
 same-length-2 : tie.Need-same-length-2
 same-length-2 c = search needs
 
 returns-2 : tie.Need-returns-2
 returns-2 c =
-    let s = c .before .before .before .before .before .before .before .before .before .before .before in
-    let seek-object = c .before .before .before .before .before .before .before .before .seek-object in
-    let found = c .before .before .before .before .before .before .s in
-    let if1 = c .before .before .before .before .if1 in
+    let at-if1 = c .before .before .before .before in
+    let at-s = at-if1 .before .before in
+    let at-seek-object = at-s .before .before in
+    let s = at-seek-object .before .before .before in
     another (grid (now (s .args .words)) (now (s .args .times))) (s .args .place) (s .args .moved) (s .args .oid) _
-    (seek-object .ensures (now (s .args .times)) ∙ found .given .1) (if1 .taken) _ _
+    (at-seek-object .seek-object .ensures (now (s .args .times)) ∙ at-s .s .given .1) (at-if1 .if1 .taken) _ _
     (c .before .before .correct-moved .ensures)
 
 same-length-3 : tie.Need-same-length-3
@@ -58,32 +58,32 @@ same-length-3 c = search needs
 
 returns-3 : tie.Need-returns-3
 returns-3 c =
-    let s = c .before .before .before .before .before .before .before .before in
-    let seek-object = c .before .before .before .before .before .seek-object in
-    let found = c .before .before .before .s in
+    let at-s = c .before .before .before in
+    let at-seek-object = at-s .before .before in
+    let s = at-seek-object .before .before .before in
     outside (grid (now (s .args .words)) (now (s .args .times))) (s .args .place) (s .args .moved) (s .args .oid) _
-    (seek-object .ensures (now (s .args .times)) ∙ found .given .1)
+    (at-seek-object .seek-object .ensures (now (s .args .times)) ∙ at-s .s .given .1)
     (sized (now (s .args .words)) (now (s .args .times)) (s .pre .0)) (c .before .if1 .left)
-    (found-below _ _ (seek-object .ensures [] ∙ found .given .1)) (c .if2 .taken)
+    (found-below _ _ (at-seek-object .seek-object .ensures [] ∙ at-s .s .given .1)) (c .if2 .taken)
 
 add-words : tie.Need-add-words
 add-words c =
-    let seek-object = c .before .before .before .before .before .seek-object in
-    let found = c .before .before .before .s in
-    omega (arith, (found-below _ _ (seek-object .ensures [] ∙ found .given .1)))
+    let at-s = c .before .before .before in
+    let at-seek-object = at-s .before .before in
+    omega (arith, (found-below _ _ (at-seek-object .seek-object .ensures [] ∙ at-s .s .given .1)))
 
 mul-words : tie.Need-mul-words
 mul-words c =
-    let seek-object = c .before .before .before .before .before .seek-object in
-    let found = c .before .before .before .s in
-    omega (arith, (found-below _ _ (seek-object .ensures [] ∙ found .given .1)))
+    let at-s = c .before .before .before in
+    let at-seek-object = at-s .before .before in
+    omega (arith, (found-below _ _ (at-seek-object .seek-object .ensures [] ∙ at-s .s .given .1)))
 
 slice-write-words : tie.Need-slice-write-words
 slice-write-words c =
-    let pre = c .before .before .before .before .before .before .before .before .pre in
-    let seek-object = c .before .before .before .before .before .seek-object in
-    let found = c .before .before .before .s in
-    omega (arith, (found-below _ _ (seek-object .ensures [] ∙ found .given .1)), pre .0)
+    let at-s = c .before .before .before in
+    let at-seek-object = at-s .before .before in
+    let s = at-seek-object .before .before .before in
+    omega (arith, (found-below _ _ (at-seek-object .seek-object .ensures [] ∙ at-s .s .given .1)), s .pre .0)
 
 cast-words : tie.Need-cast-words
 cast-words c = search needs
@@ -96,23 +96,23 @@ mul-words-2 c = search needs
 
 slice-write-words-2 : tie.Need-slice-write-words-2
 slice-write-words-2 c =
-    let pre = c .before .before .before .before .before .before .before .before .pre in
-    rw length-set (omega (arith, c .if2 .left, pre .0))
+    let s = c .before .before .before .before .before .before .before .before in
+    rw length-set (omega (arith, c .if2 .left, s .pre .0))
 
 same-length-4 : tie.Need-same-length-4
 same-length-4 c = search needs
 
 returns-4 : tie.Need-returns-4
 returns-4 c =
-    let s = c .before .before .before .before .before .before .before .before in
-    let seek-object = c .before .before .before .before .before .seek-object in
-    let found = c .before .before .before .s in
+    let at-s = c .before .before .before in
+    let at-seek-object = at-s .before .before in
+    let s = at-seek-object .before .before .before in
     alone (grid (now (s .args .words)) (now (s .args .times))) (s .args .place) (s .args .moved) (s .args .oid) _
-    (seek-object .ensures (now (s .args .times)) ∙ found .given .1)
+    (at-seek-object .seek-object .ensures (now (s .args .times)) ∙ at-s .s .given .1)
     (sized (now (s .args .words)) (now (s .args .times)) (s .pre .0)) (c .before .if1 .left)
-    (found-below _ _ (seek-object .ensures [] ∙ found .given .1)) (c .if2 .left) _
+    (found-below _ _ (at-seek-object .seek-object .ensures [] ∙ at-s .s .given .1)) (c .if2 .left) _
     (stored-own (now (s .args .words)) (now (s .args .times)) (s .pre .0) _ _
-    (found-below _ _ (seek-object .ensures [] ∙ found .given .1)) (c .if2 .left))
+    (found-below _ _ (at-seek-object .seek-object .ensures [] ∙ at-s .s .given .1)) (c .if2 .left))
 
 pub erase-entry-spec : {M : Type 1} → statement M
 erase-entry-spec =

@@ -24,30 +24,33 @@ same-length c = search needs
 
 returns : tie.Need-returns
 returns c ts =
-    let s = c .before .before .before .before .before .before .before in
-    give-lost (grid (now (s .args .words)) ts) (grid (c .before .before .before .before .return-bucket .last .0) ts)
-    (s .args .place) (s .args .moved) (s .args .bucket)
-    (rw (c .enum-told .given .1) at (c .before .before .before .before .return-bucket .ensures ts))
+    let at-return-bucket = c .before .before .before .before in
+    let s = at-return-bucket .before .before .before in
+    give-lost (grid (now (s .args .words)) ts) (grid (at-return-bucket .return-bucket .last .0) ts) (s .args .place)
+    (s .args .moved) (s .args .bucket) (rw (c .enum-told .given .1) at
+    (at-return-bucket .return-bucket .ensures ts))
 
 same-length-2 : tie.Need-same-length-2
 same-length-2 c = search needs
 
 returns-2 : tie.Need-returns-2
 returns-2 c ts =
-    let s = c .before .before .before .before .before .before .before in
-    give-waits (grid (now (s .args .words)) ts) (grid (c .before .before .before .before .return-bucket .last .0) ts)
-    (s .args .place) (s .args .moved) (s .args .bucket)
-    (rw (c .enum-told2 .given .1) at (c .before .before .before .before .return-bucket .ensures ts))
+    let at-return-bucket = c .before .before .before .before in
+    let s = at-return-bucket .before .before .before in
+    give-waits (grid (now (s .args .words)) ts) (grid (at-return-bucket .return-bucket .last .0) ts) (s .args .place)
+    (s .args .moved) (s .args .bucket) (rw (c .enum-told2 .given .1) at
+    (at-return-bucket .return-bucket .ensures ts))
 
 same-length-3 : tie.Need-same-length-3
 same-length-3 c = search needs
 
 returns-3 : tie.Need-returns-3
 returns-3 c ts =
-    let s = c .before .before .before .before .before .before .before in
-    give-done (grid (now (s .args .words)) ts) (grid (c .before .before .before .before .return-bucket .last .0) ts)
-    (s .args .place) (s .args .moved) (s .args .bucket)
-    (rw (c .enum-told3 .given .1) at (c .before .before .before .before .return-bucket .ensures ts))
+    let at-return-bucket = c .before .before .before .before in
+    let s = at-return-bucket .before .before .before in
+    give-done (grid (now (s .args .words)) ts) (grid (at-return-bucket .return-bucket .last .0) ts) (s .args .place)
+    (s .args .moved) (s .args .bucket) (rw (c .enum-told3 .given .1) at
+    (at-return-bucket .return-bucket .ensures ts))
 
 pub give-back-spec : {M : Type 1} → statement M
 give-back-spec =

@@ -26,11 +26,12 @@ same-length c = search needs
 
 returns : tie.Need-returns
 returns c ts =
-    let s = c .before .before .before .before .before .before .before in
+    let at-lower-count = c .before .before .before .before in
+    let s = at-lower-count .before .before .before in
     let e = (lowered-corrupt (withLowering (grid (now (s .args .words)) ts)) (grid (now (s .args .words)) ts)
-    (grid (c .before .before .before .before .lower-count .last .0) ts)
+    (grid (at-lower-count .lower-count .last .0) ts)
     (lowerOn (grid (now (s .args .words)) ts) ((s .args .place) .cell))
-    (c .before .before .before .before .lower-count .ensures ts) (c .enum-told .given .1)) in
+    (at-lower-count .lower-count .ensures ts) (c .enum-told .given .1)) in
     lower-lost (grid (now (s .args .words)) ts) _ (s .args .place) (s .args .moved) (e .0) (e .1)
 
 same-length-2 : tie.Need-same-length-2
@@ -38,11 +39,12 @@ same-length-2 c = search needs
 
 returns-2 : tie.Need-returns-2
 returns-2 c ts =
-    let s = c .before .before .before .before .before .before .before in
+    let at-lower-count = c .before .before .before .before in
+    let s = at-lower-count .before .before .before in
     let e = (lowered-kept (withLowering (grid (now (s .args .words)) ts)) (grid (now (s .args .words)) ts)
-    (grid (c .before .before .before .before .lower-count .last .0) ts)
+    (grid (at-lower-count .lower-count .last .0) ts)
     (lowerOn (grid (now (s .args .words)) ts) ((s .args .place) .cell))
-    (c .before .before .before .before .lower-count .ensures ts) (c .enum-told2 .given .1)) in
+    (at-lower-count .lower-count .ensures ts) (c .enum-told2 .given .1)) in
     lower-done (grid (now (s .args .words)) ts) _ (s .args .place) (s .args .moved) _ (e .0) (e .1) (e .2) (e .3)
 
 same-length-3 : tie.Need-same-length-3
@@ -50,11 +52,12 @@ same-length-3 c = search needs
 
 returns-3 : tie.Need-returns-3
 returns-3 c ts =
-    let s = c .before .before .before .before .before .before .before .before in
+    let at-lower-count = c .before .before .before .before .before in
+    let s = at-lower-count .before .before .before in
     let e = (lowered-unlinked (withLowering (grid (now (s .args .words)) ts)) (grid (now (s .args .words)) ts)
-    (grid (c .before .before .before .before .before .lower-count .last .0) ts)
+    (grid (at-lower-count .lower-count .last .0) ts)
     (lowerOn (grid (now (s .args .words)) ts) ((s .args .place) .cell))
-    (c .before .before .before .before .before .lower-count .ensures ts) _ (c .before .lowered .given .1)) in
+    (at-lower-count .lower-count .ensures ts) _ (c .before .lowered .given .1)) in
     lower-done (grid (now (s .args .words)) ts) _ (s .args .place) (s .args .moved) _ (e .0) (e .1) (e .2) (e .3)
 
 pub lower-first-spec : {M : Type 1} → statement M

@@ -49,11 +49,12 @@ same-length c = search needs
 returns-2 : tie.Need-returns-2
 unfolding tells leaves
 returns-2 c =
-    let args = c .before .before .before .before .before .before .before .before .args in
-    let if1 = c .before .before .before .before .before .before .if1 in
-    let find-hit = c .before .before .before .find-hit in
-    rw (note-full (lists (c .before .before .before .before .before .before .before .before)) _ _ (args .t) (if1 .left)
-    (listed-none (lookFrom _ _ _ _) (find-hit .ensures) (c .before .enum-told .given .1)) (c .if2 .taken))
+    let at-find-hit = c .before .before .before in
+    let at-if1 = at-find-hit .before .before .before in
+    let s = at-if1 .before .before in
+    rw (note-full (lists s) _ _ (s .args .t) (at-if1 .if1 .left)
+    (listed-none (lookFrom _ _ _ _) (at-find-hit .find-hit .ensures) (c .before .enum-told .given .1))
+    (c .if2 .taken))
 
 add-put-hit : tie.Need-add-put-hit
 add-put-hit c = search needs
@@ -70,16 +71,15 @@ same-length-2 c = search needs
 returns-3 : tie.Need-returns-3
 unfolding tells leaves
 returns-3 c =
-    let args = c .before .before .before .before .before .before .before .before .before .before .before .before .args in
-    let if1 = c .before .before .before .before .before .before .before .before .before .before .if1 in
-    let find-hit = c .before .before .before .before .before .before .before .find-hit in
-    let enum-told = c .before .before .before .before .before .enum-told in
-    let if2 = c .before .before .before .before .if2 in
+    let at-if2 = c .before .before .before .before in
+    let at-enum-told = at-if2 .before in
+    let at-find-hit = at-enum-told .before .before in
+    let at-if1 = at-find-hit .before .before .before in
+    let s = at-if1 .before .before in
     rw (
-      note-added (lists
-          (c .before .before .before .before .before .before .before .before .before .before .before .before)) _ _
-          (args .t) (if1 .left) (listed-none (lookFrom _ _ _ _) (find-hit .ensures) (enum-told .given .1))
-          (if2 .left),
+      note-added (lists s) _ _ (s .args .t) (at-if1 .if1 .left)
+          (listed-none (lookFrom _ _ _ _) (at-find-hit .find-hit .ensures) (at-enum-told .enum-told .given .1))
+          (at-if2 .if2 .left),
       c .before .before .put-hit .ensures,
     )
 
@@ -89,23 +89,23 @@ same-length-3 c = search needs
 returns-4 : tie.Need-returns-4
 unfolding tells leaves
 returns-4 c =
-    let args = c .before .before .before .before .before .before .before .before .before .args in
-    let if1 = c .before .before .before .before .before .before .before .if1 in
-    let find-hit = c .before .before .before .before .find-hit in
-    rw (note-kept (lists (c .before .before .before .before .before .before .before .before .before)) _ _ (args .t)
-    (if1 .left) _ (listed-at (lookFrom _ _ _ _) (find-hit .ensures) _ (c .before .before .listed .given .1))
+    let at-find-hit = c .before .before .before .before in
+    let at-if1 = at-find-hit .before .before .before in
+    let s = at-if1 .before .before in
+    rw (note-kept (lists s) _ _ (s .args .t) (at-if1 .if1 .left) _
+    (listed-at (lookFrom _ _ _ _) (at-find-hit .find-hit .ensures) _ (c .before .before .listed .given .1))
     (c .if3 .taken))
 
 put-hit-requires-2 : tie.Need-put-hit-requires-2
 put-hit-requires-2 c κs =
-    let pre = c .before .before .before .before .before .before .before .before .before .before .pre in
-    let find-hit = c .before .before .before .before .before .find-hit in
-    let listed = c .before .before .before .listed in (
-      pre .0,
+    let at-listed = c .before .before .before in
+    let at-find-hit = at-listed .before .before in
+    let s = at-find-hit .before .before .before .before .before in (
+      s .pre .0,
       omega (
         arith,
-        look-within _ _ _ _ _ (listed-at (lookFrom _ _ _ _) (find-hit .ensures) _
-            (listed .given .1)),
+        look-within _ _ _ _ _ (listed-at (lookFrom _ _ _ _) (at-find-hit .find-hit .ensures) _
+            (at-listed .listed .given .1)),
       ),
     )
 
@@ -115,16 +115,15 @@ same-length-4 c = search needs
 returns-5 : tie.Need-returns-5
 unfolding tells leaves
 returns-5 c =
-    let args = c .before .before .before .before .before .before .before .before .before .before .before .before .before .args in
-    let if1 = c .before .before .before .before .before .before .before .before .before .before .before .if1 in
-    let find-hit = c .before .before .before .before .before .before .before .before .find-hit in
-    let listed = c .before .before .before .before .before .before .listed in
-    let if3 = c .before .before .before .before .if3 in
+    let at-if3 = c .before .before .before .before in
+    let at-listed = at-if3 .before .before in
+    let at-find-hit = at-listed .before .before in
+    let at-if1 = at-find-hit .before .before .before in
+    let s = at-if1 .before .before in
     rw (
-      note-replaced (lists
-          (c .before .before .before .before .before .before .before .before .before .before .before .before .before))
-          _ _ (args .t) (if1 .left) _ (listed-at (lookFrom _ _ _ _) (find-hit .ensures) _ (listed .given .1))
-          (if3 .left),
+      note-replaced (lists s) _ _ (s .args .t) (at-if1 .if1 .left) _
+          (listed-at (lookFrom _ _ _ _) (at-find-hit .find-hit .ensures) _ (at-listed .listed .given .1))
+          (at-if3 .if3 .left),
       c .before .before .put-hit2 .ensures,
     )
 

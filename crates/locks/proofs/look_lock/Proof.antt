@@ -23,14 +23,14 @@ returns-2 c = rw (lt-ltb _ _ (c .before .before .if1 .left), lt-leb _ _ (c .if2 
 returns-3 : tie.Need-returns-3
 unfolding look need await tells
 returns-3 c =
-    let if1 = c .before .before .before .if1 in
-    rw (lt-ltb _ _ (if1 .left), le-leb _ _ (c .before .if2 .left), ne-eqb _ _ (c .if3 .taken))
+    let at-if1 = c .before .before .before in
+    rw (lt-ltb _ _ (at-if1 .if1 .left), le-leb _ _ (c .before .if2 .left), ne-eqb _ _ (c .if3 .taken))
 
 returns-4 : tie.Need-returns-4
 unfolding look need await tells
 returns-4 c =
-    let if1 = c .before .before .before .if1 in
-    rw (lt-ltb _ _ (if1 .left), le-leb _ _ (c .before .if2 .left), eq-eqb _ _ (c .if3 .left))
+    let at-if1 = c .before .before .before in
+    rw (lt-ltb _ _ (at-if1 .if1 .left), le-leb _ _ (c .before .if2 .left), eq-eqb _ _ (c .if3 .left))
 
 pub look-lock-spec : {M : Type 1} → statement M
 look-lock-spec =

@@ -23,8 +23,8 @@ returns-2 c = rw (lt-ltb _ _ (c .before .before .if1 .left), lt-leb _ _ (c .if2 
 returns-3 : tie.Need-returns-3
 unfolding take look need await andThen tells leaves
 returns-3 c =
-    let if1 = c .before .before .before .if1 in
-    rw (lt-ltb _ _ (if1 .left), le-leb _ _ (c .before .if2 .left), ne-eqb _ _ (c .if3 .taken))
+    let at-if1 = c .before .before .before in
+    rw (lt-ltb _ _ (at-if1 .if1 .left), le-leb _ _ (c .before .if2 .left), ne-eqb _ _ (c .if3 .taken))
 
 mul-locks : tie.Need-mul-locks
 mul-locks c = search needs
@@ -38,8 +38,8 @@ same-length c = search needs
 returns-4 : tie.Need-returns-4
 unfolding take look need await andThen tells leaves
 returns-4 c =
-    let if1 = c .before .before .before .if1 in
-    rw (lt-ltb _ _ (if1 .left), le-leb _ _ (c .before .if2 .left), eq-eqb _ _ (c .if3 .left))
+    let at-if1 = c .before .before .before in
+    rw (lt-ltb _ _ (at-if1 .if1 .left), le-leb _ _ (c .before .if2 .left), eq-eqb _ _ (c .if3 .left))
 
 pub take-lock-spec : {M : Type 1} → statement M
 take-lock-spec =

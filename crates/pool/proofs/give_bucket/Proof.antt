@@ -20,8 +20,8 @@ slice-read-height c = search needs
 returns-3 : tie.Need-returns-3
 unfolding give height withHeight need tells leaves
 returns-3 c =
-    let if1 = c .before .before .before .if1 in
-    rw (eq-eqb _ _ (if1 .left), lt-ltb _ _ (c .before .before .if2 .left), le-ltb _ _ (c .if3 .taken))
+    let at-if1 = c .before .before .before in
+    rw (eq-eqb _ _ (at-if1 .if1 .left), lt-ltb _ _ (c .before .before .if2 .left), le-ltb _ _ (c .if3 .taken))
 
 cast-top : tie.Need-cast-top
 cast-top c = search needs
@@ -44,8 +44,8 @@ same-length c = search needs
 returns-4 : tie.Need-returns-4
 unfolding give height withHeight need tells leaves
 returns-4 c =
-    let if1 = c .before .before .before .if1 in
-    rw (eq-eqb _ _ (if1 .left), lt-ltb _ _ (c .before .before .if2 .left), lt-ltb _ _ (c .if3 .left))
+    let at-if1 = c .before .before .before in
+    rw (eq-eqb _ _ (at-if1 .if1 .left), lt-ltb _ _ (c .before .before .if2 .left), lt-ltb _ _ (c .if3 .left))
 
 pub give-bucket-spec : {M : Type 1} → statement M
 give-bucket-spec =

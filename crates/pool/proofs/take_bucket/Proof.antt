@@ -20,8 +20,8 @@ returns-2 c = rw (eq-eqb _ _ (c .before .before .if1 .left), eq-eqb _ _ (c .if2 
 returns-3 : tie.Need-returns-3
 unfolding take height withHeight need tells leaves
 returns-3 c =
-    let if1 = c .before .before .before .if1 in
-    rw (eq-eqb _ _ (if1 .left), ne-eqb _ _ (c .before .if2 .left), lt-leb _ _ (c .if3 .taken))
+    let at-if1 = c .before .before .before in
+    rw (eq-eqb _ _ (at-if1 .if1 .left), ne-eqb _ _ (c .before .if2 .left), lt-leb _ _ (c .if3 .taken))
 
 sub-top : tie.Need-sub-top
 sub-top c = search needs
@@ -38,14 +38,13 @@ slice-read-bucket c = search needs
 returns-4 : tie.Need-returns-4
 unfolding take height withHeight need tells leaves
 returns-4 c =
-    let if1 = c .before .before .before .before .before .if1 in
-    let if2 = c .before .before .before .if2 in
+    let at-if2 = c .before .before .before in
+    let at-if1 = at-if2 .before .before in
     rw (
-      eq-eqb _ _ (if1 .left),
-      ne-eqb _ _ (if2 .left),
+      eq-eqb _ _ (at-if1 .if1 .left),
+      ne-eqb _ _ (at-if2 .if2 .left),
       le-leb _ _ (c .before .before .if3 .left),
-      le-ltb _ _
-          (c .if4 .taken),
+      le-ltb _ _ (c .if4 .taken),
     )
 
 sub-pool : tie.Need-sub-pool
@@ -60,14 +59,13 @@ same-length c = search needs
 returns-5 : tie.Need-returns-5
 unfolding take height withHeight need tells leaves
 returns-5 c =
-    let if1 = c .before .before .before .before .before .if1 in
-    let if2 = c .before .before .before .if2 in
+    let at-if2 = c .before .before .before in
+    let at-if1 = at-if2 .before .before in
     rw (
-      eq-eqb _ _ (if1 .left),
-      ne-eqb _ _ (if2 .left),
+      eq-eqb _ _ (at-if1 .if1 .left),
+      ne-eqb _ _ (at-if2 .if2 .left),
       le-leb _ _ (c .before .before .if3 .left),
-      lt-ltb _ _
-          (c .if4 .left),
+      lt-ltb _ _ (c .if4 .left),
     )
 
 pub take-bucket-spec : {M : Type 1} → statement M

@@ -48,13 +48,13 @@ slice-read-left c = search needs
 returns-3 : tie.Need-returns-3
 unfolding addReader need tells leaves
 returns-3 c =
-    let s = c .before .before .before .before .before in
-    let if1 = c .before .before .before .before .if1 in
+    let at-if1 = c .before .before .before .before in
+    let s = at-if1 .before in
     rw (
-      lt-ltb _ _ (if1 .left),
-      part-at (now (s .args .words)) READERS 512 (s .args .bucket) 0 (if1 .left),
-      part-at
-          (now (s .args .words)) COUNT 512 (s .args .bucket) 0 (if1 .left),
+      lt-ltb _ _ (at-if1 .if1 .left),
+      part-at (now (s .args .words)) READERS 512 (s .args .bucket) 0
+          (at-if1 .if1 .left),
+      part-at (now (s .args .words)) COUNT 512 (s .args .bucket) 0 (at-if1 .if1 .left),
       lt-ltb _ _ (c .before .before .if2 .left),
       lt-leb _ _ (c .if3 .taken),
     )
@@ -77,17 +77,18 @@ same-length c = search needs
 returns-4 : tie.Need-returns-4
 unfolding addReader need tells leaves
 returns-4 c =
-    let s = c .before .before .before .before .before in
-    let if1 = c .before .before .before .before .if1 in
+    let at-if1 = c .before .before .before .before in
+    let s = at-if1 .before in
     rw (
-      lt-ltb _ _ (if1 .left),
-      part-at (now (s .args .words)) READERS 512 (s .args .bucket) 0 (if1 .left),
-      part-at
-          (now (s .args .words)) COUNT 512 (s .args .bucket) 0 (if1 .left),
+      lt-ltb _ _ (at-if1 .if1 .left),
+      part-at (now (s .args .words)) READERS 512 (s .args .bucket) 0
+          (at-if1 .if1 .left),
+      part-at (now (s .args .words)) COUNT 512 (s .args .bucket) 0 (at-if1 .if1 .left),
       lt-ltb _ _ (c .before .before .if2 .left),
       le-leb _ _ (c .if3 .left),
-      store-set (now (s .args .words)) READERS 512 (s .args .bucket)
-          (at (now (s .args .words)) (READERS + (s .args .bucket)) + 1) (omega (arith, s .pre)) (if1 .left),
+      store-set (now (s .args .words))
+          READERS 512 (s .args .bucket) (at (now (s .args .words)) (READERS + (s .args .bucket)) + 1)
+          (omega (arith, s .pre)) (at-if1 .if1 .left),
     )
 
 pub add-reader-spec : {M : Type 1} → statement M

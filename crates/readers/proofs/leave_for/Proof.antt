@@ -48,39 +48,40 @@ slice-read-left c = search needs
 returns-3 : tie.Need-returns-3
 unfolding tells leaves
 returns-3 c =
-    let s = c .before .before .before .before .before in
-    let if1 = c .before .before .before .before .if1 in
+    let at-if1 = c .before .before .before .before in
+    let s = at-if1 .before in
     rw (leave-wide (countIn (now (s .args .words))) (readersIn (now (s .args .words))) (s .args .bucket)
-    (s .args .below) (if1 .left) (rw (part-at (now (s .args .words)) READERS 512 (s .args .below) 0 (if1 .left))
-    (c .before .before .if2 .left)) (rw (part-at (now (s .args .words)) COUNT 512 (s .args .below) 0
-    (if1 .left)) (c .if3 .taken)))
+    (s .args .below) (at-if1 .if1 .left) (rw (part-at (now (s .args .words)) READERS 512 (s .args .below) 0
+    (at-if1 .if1 .left)) (c .before .before .if2 .left))
+    (rw (part-at (now (s .args .words)) COUNT 512 (s .args .below) 0 (at-if1 .if1 .left)) (c .if3 .taken)))
 
 returns-4 : tie.Need-returns-4
 unfolding tells leaves
 returns-4 c =
-    let s = c .before .before .before .before .before .before in
-    let if1 = c .before .before .before .before .before .if1 in
-    let if2 = c .before .before .before .if2 in
+    let at-if2 = c .before .before .before in
+    let at-if1 = at-if2 .before .before in
+    let s = at-if1 .before in
     rw (leave-none-here (countIn (now (s .args .words))) (readersIn (now (s .args .words))) (s .args .bucket)
-    (s .args .below) (if1 .left) (rw (part-at (now (s .args .words)) READERS 512 (s .args .below) 0 (if1 .left))
-    (if2 .left)) (rw (part-at (now (s .args .words)) COUNT 512 (s .args .below) 0 (if1 .left))
-    (c .before .if3 .left)) (c .if4 .taken))
+    (s .args .below) (at-if1 .if1 .left) (rw (part-at (now (s .args .words)) READERS 512 (s .args .below) 0
+    (at-if1 .if1 .left)) (at-if2 .if2 .left)) (rw (part-at (now (s .args .words)) COUNT 512 (s .args .below) 0
+    (at-if1 .if1 .left)) (c .before .if3 .left)) (c .if4 .taken))
 
 returns-5 : tie.Need-returns-5
 unfolding tells leaves
 returns-5 c =
-    let s = c .before .before .before .before .before .before .before in
-    let if1 = c .before .before .before .before .before .before .if1 in
-    let if2 = c .before .before .before .before .if2 in
+    let at-if2 = c .before .before .before .before in
+    let at-if1 = at-if2 .before .before in
+    let s = at-if1 .before in
     rw (
       leave-same (countIn (now (s .args .words))) (readersIn (now (s .args .words))) (s .args .bucket)
-          (s .args .below) (if1 .left) (rw (part-at (now (s .args .words)) READERS 512 (s .args .below) 0 (if1 .left))
-          (if2 .left)) (rw (part-at (now (s .args .words)) COUNT 512 (s .args .below) 0 (if1 .left))
-          (c .before .before .if3 .left)) (c .before .if4 .left)
+          (s .args .below) (at-if1 .if1 .left) (rw (part-at (now (s .args .words)) READERS 512 (s .args .below) 0
+          (at-if1 .if1 .left)) (at-if2 .if2 .left)) (rw (part-at (now (s .args .words)) COUNT 512 (s .args .below) 0
+          (at-if1 .if1 .left)) (c .before .before .if3 .left)) (c .before .if4 .left)
           (part-length (now (s .args .words)) READERS 512 (omega (arith, s .pre))) (c .if5 .taken),
       put-part
           (now (s .args .words)) READERS 512,
-      part-at (now (s .args .words)) COUNT 512 (s .args .below) 0 (if1 .left),
+      part-at (now (s .args .words)) COUNT 512 (s .args .below) 0
+          (at-if1 .if1 .left),
     )
 
 add-less : tie.Need-add-less
@@ -95,31 +96,31 @@ slice-read-less c = search needs
 returns-6 : tie.Need-returns-6
 unfolding tells leaves
 returns-6 c =
-    let s = c .before .before .before .before .before .before .before .before .before in
-    let if1 = c .before .before .before .before .before .before .before .before .if1 in
-    let if2 = c .before .before .before .before .before .before .if2 in
-    let if3 = c .before .before .before .before .if3 in
-    let if4 = c .before .before .before .if4 in
+    let at-if4 = c .before .before .before in
+    let at-if3 = at-if4 .before in
+    let at-if2 = at-if3 .before .before in
+    let at-if1 = at-if2 .before .before in
+    let s = at-if1 .before in
     rw (leave-none (countIn (now (s .args .words))) (readersIn (now (s .args .words))) (s .args .bucket)
-    (s .args .below) (if1 .left) (rw (part-at (now (s .args .words)) READERS 512 (s .args .below) 0 (if1 .left))
-    (if2 .left)) (rw (part-at (now (s .args .words)) COUNT 512 (s .args .below) 0 (if1 .left)) (if3 .left))
-    (if4 .left) (c .before .before .if5 .left) (rw (part-at (now (s .args .words)) READERS 512 (s .args .bucket)
-    0 (if4 .left)) (c .if6 .taken)))
+    (s .args .below) (at-if1 .if1 .left) (rw (part-at (now (s .args .words)) READERS 512 (s .args .below) 0
+    (at-if1 .if1 .left)) (at-if2 .if2 .left)) (rw (part-at (now (s .args .words)) COUNT 512 (s .args .below) 0
+    (at-if1 .if1 .left)) (at-if3 .if3 .left)) (at-if4 .if4 .left) (c .before .before .if5 .left)
+    (rw (part-at (now (s .args .words)) READERS 512 (s .args .bucket) 0 (at-if4 .if4 .left)) (c .if6 .taken)))
 
 returns-7 : tie.Need-returns-7
 unfolding tells leaves
 returns-7 c =
-    let s = c .before .before .before .before .before .before .before .before .before .before in
-    let if1 = c .before .before .before .before .before .before .before .before .before .if1 in
-    let if2 = c .before .before .before .before .before .before .before .if2 in
-    let if3 = c .before .before .before .before .before .if3 in
-    let if4 = c .before .before .before .before .if4 in
-    let if5 = c .before .before .before .if5 in
+    let at-if5 = c .before .before .before in
+    let at-if4 = at-if5 .before in
+    let at-if3 = at-if4 .before in
+    let at-if2 = at-if3 .before .before in
+    let at-if1 = at-if2 .before .before in
+    let s = at-if1 .before in
     rw (leave-many (countIn (now (s .args .words))) (readersIn (now (s .args .words))) (s .args .bucket)
-    (s .args .below) (if1 .left) (rw (part-at (now (s .args .words)) READERS 512 (s .args .below) 0 (if1 .left))
-    (if2 .left)) (rw (part-at (now (s .args .words)) COUNT 512 (s .args .below) 0 (if1 .left)) (if3 .left))
-    (if4 .left) (if5 .left) (rw (part-at (now (s .args .words)) READERS 512 (s .args .bucket) 0 (if4 .left))
-    (c .if7 .taken)))
+    (s .args .below) (at-if1 .if1 .left) (rw (part-at (now (s .args .words)) READERS 512 (s .args .below) 0
+    (at-if1 .if1 .left)) (at-if2 .if2 .left)) (rw (part-at (now (s .args .words)) COUNT 512 (s .args .below) 0
+    (at-if1 .if1 .left)) (at-if3 .if3 .left)) (at-if4 .if4 .left) (at-if5 .if5 .left)
+    (rw (part-at (now (s .args .words)) READERS 512 (s .args .bucket) 0 (at-if4 .if4 .left)) (c .if7 .taken)))
 
 add-words : tie.Need-add-words
 add-words c = search needs
@@ -151,26 +152,27 @@ same-length c = search needs
 returns-8 : tie.Need-returns-8
 unfolding tells leaves
 returns-8 c =
-    let s = c .before .before .before .before .before .before .before .before .before .before in
-    let if1 = c .before .before .before .before .before .before .before .before .before .if1 in
-    let if2 = c .before .before .before .before .before .before .before .if2 in
-    let if3 = c .before .before .before .before .before .if3 in
-    let if4 = c .before .before .before .before .if4 in
-    let if5 = c .before .before .before .if5 in
+    let at-if5 = c .before .before .before in
+    let at-if4 = at-if5 .before in
+    let at-if3 = at-if4 .before in
+    let at-if2 = at-if3 .before .before in
+    let at-if1 = at-if2 .before .before in
+    let s = at-if1 .before in
     rw (
-      leave-on (countIn (now (s .args .words))) (readersIn (now (s .args .words))) (s .args .bucket) (s .args .below)
-          (if1 .left) (rw (part-at (now (s .args .words)) READERS 512 (s .args .below) 0 (if1 .left)) (if2 .left))
-          (rw (part-at (now (s .args .words)) COUNT 512 (s .args .below) 0 (if1 .left)) (if3 .left)) (if4 .left)
-          (if5 .left) (rw (part-at (now (s .args .words)) READERS 512 (s .args .bucket) 0 (if4 .left))
-          (c .before .if6 .left)) (rw (part-at (now (s .args .words)) READERS 512 (s .args .bucket) 0 (if4 .left))
-          (c .if7 .left)),
-      part-at (now (s .args .words)) READERS 512 (s .args .below) 0 (if1 .left),
-      part-at
-          (now (s .args .words)) READERS 512 (s .args .bucket) 0 (if4 .left),
-      part-at (now (s .args .words)) COUNT 512
-          (s .args .below) 0 (if1 .left),
-      stored-twice (now (s .args .words)) (s .args .below) (s .args .bucket) _ _
-          (s .pre) (if1 .left) (if4 .left),
+      leave-on (countIn (now (s .args .words))) (readersIn (now (s .args .words))) (s .args .bucket)
+          (s .args .below) (at-if1 .if1 .left) (rw (part-at (now (s .args .words)) READERS 512 (s .args .below) 0
+          (at-if1 .if1 .left)) (at-if2 .if2 .left)) (rw (part-at (now (s .args .words)) COUNT 512 (s .args .below) 0
+          (at-if1 .if1 .left)) (at-if3 .if3 .left)) (at-if4 .if4 .left) (at-if5 .if5 .left)
+          (rw (part-at (now (s .args .words)) READERS 512 (s .args .bucket) 0 (at-if4 .if4 .left))
+          (c .before .if6 .left)) (rw (part-at (now (s .args .words)) READERS 512 (s .args .bucket) 0
+          (at-if4 .if4 .left)) (c .if7 .left)),
+      part-at (now (s .args .words)) READERS 512 (s .args .below) 0
+          (at-if1 .if1 .left),
+      part-at (now (s .args .words)) READERS 512 (s .args .bucket) 0 (at-if4 .if4 .left),
+      part-at (now (s .args .words)) COUNT 512 (s .args .below) 0 (at-if1 .if1 .left),
+      stored-twice
+          (now (s .args .words)) (s .args .below) (s .args .bucket) _ _ (s .pre) (at-if1 .if1 .left)
+          (at-if4 .if4 .left),
     )
 
 pub leave-for-spec : {M : Type 1} → statement M

@@ -34,10 +34,10 @@ returns-2 c =
 returns-3 : tie.Need-returns-3
 unfolding tells leaves
 returns-3 c =
-    let s = c .before .before .before .before in
-    let if1 = c .before .before .before .if1 in
-    rw (less-many (readersIn (now (s .args .words))) (s .args .bucket) _ (if1 .left)
-    (part-at (now (s .args .words)) READERS 512 (s .args .bucket) 0 (if1 .left)) (c .if3 .taken))
+    let at-if1 = c .before .before .before in
+    let s = at-if1 .before in
+    rw (less-many (readersIn (now (s .args .words))) (s .args .bucket) _ (at-if1 .if1 .left)
+    (part-at (now (s .args .words)) READERS 512 (s .args .bucket) 0 (at-if1 .if1 .left)) (c .if3 .taken))
 
 sub-words : tie.Need-sub-words
 sub-words c = search needs
@@ -57,14 +57,14 @@ same-length c = search needs
 returns-4 : tie.Need-returns-4
 unfolding tells leaves
 returns-4 c =
-    let s = c .before .before .before .before in
-    let if1 = c .before .before .before .if1 in
+    let at-if1 = c .before .before .before in
+    let s = at-if1 .before in
     rw (
-      less (readersIn (now (s .args .words))) (s .args .bucket) _ (if1 .left)
-          (part-at (now (s .args .words)) READERS 512 (s .args .bucket) 0 (if1 .left)) (c .before .if2 .left)
-          (c .if3 .left),
-      store-set (now (s .args .words)) READERS 512 (s .args .bucket) _ (omega (arith, s .pre))
-          (if1 .left),
+      less (readersIn (now (s .args .words))) (s .args .bucket) _ (at-if1 .if1 .left)
+          (part-at (now (s .args .words)) READERS 512 (s .args .bucket) 0 (at-if1 .if1 .left))
+          (c .before .if2 .left) (c .if3 .left),
+      store-set (now (s .args .words)) READERS 512 (s .args .bucket) _
+          (omega (arith, s .pre)) (at-if1 .if1 .left),
     )
 
 pub take-reader-spec : {M : Type 1} → statement M

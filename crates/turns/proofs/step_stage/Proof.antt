@@ -114,24 +114,24 @@ same-length c = search needs
 
 returns-2 : tie.Need-returns-2
 returns-2 c =
-    let enum-told2 = c .before .before .before .before .enum-told2 in
-    known _ _ _ _ _ (enum-told2 .given .1) ∙ c .before .before .take-in .ensures _
+    let at-enum-told2 = c .before .before .before .before in
+    known _ _ _ _ _ (at-enum-told2 .enum-told2 .given .1) ∙ c .before .before .take-in .ensures _
 
 same-length-2 : tie.Need-same-length-2
 same-length-2 c = search needs
 
 returns-3 : tie.Need-returns-3
 returns-3 c =
-    let found = c .before .before .before .before .before .s in
-    known _ _ _ _ _ (found .given .1) ∙ c .before .before .cell-in .ensures _
+    let at-s = c .before .before .before .before .before in
+    known _ _ _ _ _ (at-s .s .given .1) ∙ c .before .before .cell-in .ensures _
 
 same-length-3 : tie.Need-same-length-3
 same-length-3 c = search needs
 
 returns-4 : tie.Need-returns-4
 returns-4 c =
-    let s2 = c .before .before .before .before .before .s2 in
-    looks _ _ _ _ _ (s2 .given .1) ∙ c .before .before .look-last .ensures _
+    let at-s2 = c .before .before .before .before .before in
+    looks _ _ _ _ _ (at-s2 .s2 .given .1) ∙ c .before .before .look-last .ensures _
 
 same-length-4 : tie.Need-same-length-4
 same-length-4 c = search needs
@@ -141,25 +141,25 @@ same-length-5 c = search needs
 
 returns-5 : tie.Need-returns-5
 returns-5 c =
-    let s3 = c .before .before .before .before .before .before .before .s3 in
-    let copy-last = c .before .before .before .copy-last in
-    copies _ _ _ _ _ _ (s3 .given .1) ∙ copy-last .ensures
+    let at-copy-last = c .before .before .before in
+    let at-s3 = at-copy-last .before .before .before .before in
+    copies _ _ _ _ _ _ (at-s3 .s3 .given .1) ∙ at-copy-last .copy-last .ensures
 
 same-length-6 : tie.Need-same-length-6
 same-length-6 c = search needs
 
 returns-6 : tie.Need-returns-6
 returns-6 c =
-    let s4 = c .before .before .before .before .before .s4 in
-    lowers _ _ _ _ _ _ (s4 .given .1) ∙ c .before .before .lower-first .ensures _
+    let at-s4 = c .before .before .before .before .before in
+    lowers _ _ _ _ _ _ (at-s4 .s4 .given .1) ∙ c .before .before .lower-first .ensures _
 
 same-length-7 : tie.Need-same-length-7
 same-length-7 c = search needs
 
 returns-7 : tie.Need-returns-7
 returns-7 c =
-    let s5 = c .before .before .before .before .before .s5 in
-    returned _ _ _ _ _ _ _ (s5 .given .1) ∙ c .before .before .give-back .ensures _
+    let at-s5 = c .before .before .before .before .before in
+    returned _ _ _ _ _ _ _ (at-s5 .s5 .given .1) ∙ c .before .before .give-back .ensures _
 
 same-length-8 : tie.Need-same-length-8
 same-length-8 c = search needs
@@ -169,8 +169,8 @@ same-length-9 c = search needs
 
 returns-8 : tie.Need-returns-8
 returns-8 c =
-    let s6 = c .before .before .before .before .before .before .s6 in
-    erases _ _ _ _ _ _ (s6 .given .1) ∙ c .before .before .erase-entry .ensures
+    let at-s6 = c .before .before .before .before .before .before in
+    erases _ _ _ _ _ _ (at-s6 .s6 .given .1) ∙ c .before .before .erase-entry .ensures
 
 same-length-10 : tie.Need-same-length-10
 same-length-10 c = search needs
@@ -180,17 +180,17 @@ same-length-11 c = search needs
 
 returns-9 : tie.Need-returns-9
 returns-9 c =
-    let enum-told3 = c .before .before .before .before .before .before .enum-told3 in
-    let choose-cell = c .before .before .before .choose-cell in
-    chooses _ _ _ _ (enum-told3 .given .1) ∙ choose-cell .ensures
+    let at-choose-cell = c .before .before .before in
+    let at-enum-told3 = at-choose-cell .before .before .before in
+    chooses _ _ _ _ (at-enum-told3 .enum-told3 .given .1) ∙ at-choose-cell .choose-cell .ensures
 
 same-length-12 : tie.Need-same-length-12
 same-length-12 c = search needs
 
 returns-10 : tie.Need-returns-10
 returns-10 c =
-    let enum-told4 = c .before .before .before .before .enum-told4 in
-    makes-room _ _ _ _ (enum-told4 .given .1) ∙ c .before .before .make-room-stage .ensures _
+    let at-enum-told4 = c .before .before .before .before in
+    makes-room _ _ _ _ (at-enum-told4 .enum-told4 .given .1) ∙ c .before .before .make-room-stage .ensures _
 
 same-length-13 : tie.Need-same-length-13
 same-length-13 c = search needs
@@ -200,25 +200,25 @@ same-length-14 c = search needs
 
 returns-11 : tie.Need-returns-11
 returns-11 c =
-    let enum-told5 = c .before .before .before .before .before .before .enum-told5 in
-    let write-new = c .before .before .before .write-new in
-    writes _ _ _ _ (enum-told5 .given .1) ∙ write-new .ensures
+    let at-write-new = c .before .before .before in
+    let at-enum-told5 = at-write-new .before .before .before in
+    writes _ _ _ _ (at-enum-told5 .enum-told5 .given .1) ∙ at-write-new .write-new .ensures
 
 same-length-15 : tie.Need-same-length-15
 same-length-15 c = search needs
 
 returns-12 : tie.Need-returns-12
 returns-12 c =
-    let s7 = c .before .before .before .before .before .s7 in
-    raises _ _ _ _ _ (s7 .given .1) ∙ c .before .before .raise .ensures _
+    let at-s7 = c .before .before .before .before .before in
+    raises _ _ _ _ _ (at-s7 .s7 .given .1) ∙ c .before .before .raise .ensures _
 
 same-length-16 : tie.Need-same-length-16
 same-length-16 c = search needs
 
 returns-13 : tie.Need-returns-13
 returns-13 c =
-    let s8 = c .before .before .before .before .before .s8 in
-    switches _ _ _ _ _ (s8 .given .1) ∙ c .before .before .switch-place .ensures _
+    let at-s8 = c .before .before .before .before .before in
+    switches _ _ _ _ _ (at-s8 .s8 .given .1) ∙ c .before .before .switch-place .ensures _
 
 same-length-17 : tie.Need-same-length-17
 same-length-17 c = search needs
@@ -228,17 +228,17 @@ same-length-18 c = search needs
 
 returns-14 : tie.Need-returns-14
 returns-14 c =
-    let s9 = c .before .before .before .before .before .before .before .s9 in
-    let delete-old = c .before .before .before .delete-old in
-    deletes _ _ _ _ _ (s9 .given .1) ∙ delete-old .ensures
+    let at-delete-old = c .before .before .before in
+    let at-s9 = at-delete-old .before .before .before .before in
+    deletes _ _ _ _ _ (at-s9 .s9 .given .1) ∙ at-delete-old .delete-old .ensures
 
 same-length-19 : tie.Need-same-length-19
 same-length-19 c = search needs
 
 returns-15 : tie.Need-returns-15
 returns-15 c =
-    let enum-told6 = c .before .before .before .before .enum-told6 in
-    known _ _ _ _ _ (enum-told6 .given .1) ∙ c .before .before .release-in .ensures _
+    let at-enum-told6 = c .before .before .before .before in
+    known _ _ _ _ _ (at-enum-told6 .enum-told6 .given .1) ∙ c .before .before .release-in .ensures _
 
 pub step-stage-spec : {M : Type 1} → statement M
 step-stage-spec =

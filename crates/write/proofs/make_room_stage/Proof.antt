@@ -37,28 +37,28 @@ same-length c = search needs
 
 returns-2 : tie.Need-returns-2
 returns-2 c ts =
-    let s = c .before .before .before .before .before .before .before .before .before .before in
-    let on-grid = c .before .before .before .before .before .before .before .before .on-grid in
-    let if1 = c .before .before .before .before .before .before .before .if1 in
-    let cell-of = c .before .before .before .before .before .cell-of in
-    let make-room = c .before .before .before .before .make-room in
-    room-lost (grid (now (s .args .words)) ts) (grid (make-room .last .0) ts) (s .args .x) (s .args .y)
-    (sym (on-grid .ensures) ∙ not-false (on-grid .result) (if1 .left)) _ (cell-of .ensures)
-    (rw (c .enum-told .given .1) at (make-room .ensures ts))
+    let at-make-room = c .before .before .before .before in
+    let at-cell-of = at-make-room .before in
+    let at-if1 = at-cell-of .before .before in
+    let at-on-grid = at-if1 .before in
+    let s = at-on-grid .before .before in
+    room-lost (grid (now (s .args .words)) ts) (grid (at-make-room .make-room .last .0) ts) (s .args .x) (s .args .y)
+    (sym (at-on-grid .on-grid .ensures) ∙ not-false (at-on-grid .on-grid .result) (at-if1 .if1 .left)) _
+    (at-cell-of .cell-of .ensures) (rw (c .enum-told .given .1) at (at-make-room .make-room .ensures ts))
 
 same-length-2 : tie.Need-same-length-2
 same-length-2 c = search needs
 
 returns-3 : tie.Need-returns-3
 returns-3 c ts =
-    let s = c .before .before .before .before .before .before .before .before .before .before in
-    let on-grid = c .before .before .before .before .before .before .before .before .on-grid in
-    let if1 = c .before .before .before .before .before .before .before .if1 in
-    let cell-of = c .before .before .before .before .before .cell-of in
-    let make-room = c .before .before .before .before .make-room in
-    room-made (grid (now (s .args .words)) ts) (grid (make-room .last .0) ts) (s .args .x) (s .args .y)
-    (sym (on-grid .ensures) ∙ not-false (on-grid .result) (if1 .left)) _ (cell-of .ensures)
-    (rw (c .enum-told2 .given .1) at (make-room .ensures ts))
+    let at-make-room = c .before .before .before .before in
+    let at-cell-of = at-make-room .before in
+    let at-if1 = at-cell-of .before .before in
+    let at-on-grid = at-if1 .before in
+    let s = at-on-grid .before .before in
+    room-made (grid (now (s .args .words)) ts) (grid (at-make-room .make-room .last .0) ts) (s .args .x) (s .args .y)
+    (sym (at-on-grid .on-grid .ensures) ∙ not-false (at-on-grid .on-grid .result) (at-if1 .if1 .left)) _
+    (at-cell-of .cell-of .ensures) (rw (c .enum-told2 .given .1) at (at-make-room .make-room .ensures ts))
 
 pub make-room-stage-spec : {M : Type 1} → statement M
 make-room-stage-spec =

@@ -33,11 +33,12 @@ slice-read-last c = search needs
 
 returns-2 : tie.Need-returns-2
 returns-2 c =
-    let s = c .before .before .before .before .before in
-    let on-grid = c .before .before .before .on-grid in
+    let at-on-grid = c .before .before .before in
+    let s = at-on-grid .before .before in
     write-late (grid (now (s .args .words)) (now (s .args .times))) (s .args .oid) (s .args .x) (s .args .y)
-    (sym (on-grid .ensures) ∙ not-false (on-grid .result) (c .before .before .if1 .left))
-    (at (now (s .args .words)) CLOCK) (clock-at (now (s .args .words)) (now (s .args .times))) (c .if2 .taken)
+    (sym (at-on-grid .on-grid .ensures) ∙ not-false (at-on-grid .on-grid .result)
+    (c .before .before .if1 .left)) (at (now (s .args .words)) CLOCK)
+    (clock-at (now (s .args .words)) (now (s .args .times))) (c .if2 .taken)
 
 add-time : tie.Need-add-time
 add-time c = search needs
@@ -62,21 +63,23 @@ same-length-2 c = search needs
 
 returns-3 : tie.Need-returns-3
 returns-3 c =
-    let s = c .before .before .before .before .before .before .before .before .before .before .before .before .before .before in
-    let on-grid = c .before .before .before .before .before .before .before .before .before .before .before .before .on-grid in
-    let if1 = c .before .before .before .before .before .before .before .before .before .before .before .if1 in
-    let if2 = c .before .before .before .before .before .before .before .before .before .if2 in
-    let cell-of = c .before .before .before .before .before .before .before .before .cell-of in
-    let write-tuple = c .before .before .before .before .before .write-tuple in
+    let at-write-tuple = c .before .before .before .before .before in
+    let at-cell-of = at-write-tuple .before .before .before in
+    let at-if2 = at-cell-of .before in
+    let at-if1 = at-if2 .before .before in
+    let at-on-grid = at-if1 .before in
+    let s = at-on-grid .before .before in
     let e = written-corrupt (λ (w : Writing). withTuples (grid (now (s .args .words)) (now (s .args .times)))
     (w .tuples)) (grid (now (s .args .words)) (now (s .args .times)))
-    (grid (write-tuple .last .0) (write-tuple .last .1 .0))
+    (grid (at-write-tuple .write-tuple .last .0) (at-write-tuple .write-tuple .last .1 .0))
     (writeOn (grid (now (s .args .words)) (now (s .args .times))) _ (s .args .oid) (s .args .x) (s .args .y)
-    ((at (now (s .args .words)) CLOCK) + 1)) (write-tuple .ensures) (c .enum-told .given .1) in
+    ((at (now (s .args .words)) CLOCK) + 1)) (at-write-tuple .write-tuple .ensures) (c .enum-told .given .1)
+    in
     write-lost (grid (now (s .args .words)) (now (s .args .times))) (s .args .oid) (s .args .x) (s .args .y)
-    (sym (on-grid .ensures) ∙ not-false (on-grid .result) (if1 .left)) (at (now (s .args .words)) CLOCK)
-    (clock-at (now (s .args .words)) (now (s .args .times))) (if2 .left)
-    (grid (write-tuple .last .0) (write-tuple .last .1 .0)) _ (cell-of .ensures) (e .0) (e .1)
+    (sym (at-on-grid .on-grid .ensures) ∙ not-false (at-on-grid .on-grid .result) (at-if1 .if1 .left))
+    (at (now (s .args .words)) CLOCK) (clock-at (now (s .args .words)) (now (s .args .times)))
+    (at-if2 .if2 .left) (grid (at-write-tuple .write-tuple .last .0)
+    (at-write-tuple .write-tuple .last .1 .0)) _ (at-cell-of .cell-of .ensures) (e .0) (e .1)
 
 slice-write-words : tie.Need-slice-write-words
 slice-write-words c = search needs
@@ -89,22 +92,25 @@ same-length-4 c = search needs
 
 returns-4 : tie.Need-returns-4
 returns-4 c =
-    let s = c .before .before .before .before .before .before .before .before .before .before .before .before .before .before .before in
-    let on-grid = c .before .before .before .before .before .before .before .before .before .before .before .before .before .on-grid in
-    let if1 = c .before .before .before .before .before .before .before .before .before .before .before .before .if1 in
-    let if2 = c .before .before .before .before .before .before .before .before .before .before .if2 in
-    let cell-of = c .before .before .before .before .before .before .before .before .before .cell-of in
-    let write-tuple = c .before .before .before .before .before .before .write-tuple in
+    let at-write-tuple = c .before .before .before .before .before .before in
+    let at-cell-of = at-write-tuple .before .before .before in
+    let at-if2 = at-cell-of .before in
+    let at-if1 = at-if2 .before .before in
+    let at-on-grid = at-if1 .before in
+    let s = at-on-grid .before .before in
     let e = written-at (λ (w : Writing). withTuples (grid (now (s .args .words)) (now (s .args .times))) (w .tuples))
-    (grid (now (s .args .words)) (now (s .args .times))) (grid (write-tuple .last .0) (write-tuple .last .1 .0))
+    (grid (now (s .args .words)) (now (s .args .times)))
+    (grid (at-write-tuple .write-tuple .last .0) (at-write-tuple .write-tuple .last .1 .0))
     (writeOn (grid (now (s .args .words)) (now (s .args .times))) _ (s .args .oid) (s .args .x) (s .args .y)
-    ((at (now (s .args .words)) CLOCK) + 1)) (write-tuple .ensures) _ (c .before .written .given .1) in
+    ((at (now (s .args .words)) CLOCK) + 1)) (at-write-tuple .write-tuple .ensures) _
+    (c .before .written .given .1) in
     write-done (grid (now (s .args .words)) (now (s .args .times))) (s .args .oid) (s .args .x) (s .args .y)
-    (sym (on-grid .ensures) ∙ not-false (on-grid .result) (if1 .left)) (at (now (s .args .words)) CLOCK)
-    (clock-at (now (s .args .words)) (now (s .args .times))) (if2 .left) _ _ (cell-of .ensures) _ (e .0) (e .1)
-    (e .2) (grid (write-tuple .last .0) (write-tuple .last .1 .0)) (e .3)
-    (set-clock (write-tuple .last .0) (write-tuple .last .1 .0) (write-tuple .kept .0 ∙ s .pre .0)
-    ((at (now (s .args .words)) CLOCK) + 1))
+    (sym (at-on-grid .on-grid .ensures) ∙ not-false (at-on-grid .on-grid .result) (at-if1 .if1 .left))
+    (at (now (s .args .words)) CLOCK) (clock-at (now (s .args .words)) (now (s .args .times)))
+    (at-if2 .if2 .left) _ _ (at-cell-of .cell-of .ensures) _ (e .0) (e .1) (e .2)
+    (grid (at-write-tuple .write-tuple .last .0) (at-write-tuple .write-tuple .last .1 .0)) (e .3)
+    (set-clock (at-write-tuple .write-tuple .last .0) (at-write-tuple .write-tuple .last .1 .0)
+    (at-write-tuple .write-tuple .kept .0 ∙ s .pre .0) ((at (now (s .args .words)) CLOCK) + 1))
 
 pub write-new-spec : {M : Type 1} → statement M
 write-new-spec =

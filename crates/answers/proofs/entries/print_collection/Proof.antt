@@ -11,8 +11,18 @@ print-collected-requires c κs = search needs
 
 print-entries-requires : tie.Need-print-entries-requires
 print-entries-requires c κs =
-    let a = c .before .before .before .before .before .before .before .args in
-    (omega (arith, c .before .before .before .before .before .before .before .pre .0, c .before .before .before .print-collected .ensures .behind, c .before .before .before .print-collected .kept .0, collected-short (a .line) (a .steps) (a .entries) (search needs) (search needs) (search needs)), c .before .before .before .before .before .before .before .pre .1)
+    let at-print-collected = c .before .before .before in
+    let s = at-print-collected .before .before .before .before in (
+      omega (
+        arith,
+        s .pre .0,
+        at-print-collected .print-collected .ensures .behind,
+        at-print-collected .print-collected .kept .0,
+        collected-short (s .args .line) (s .args .steps)
+            (s .args .entries) (search needs) (search needs) (search needs),
+      ),
+      s .pre .1,
+    )
 
 same-length : tie.Need-same-length
 same-length c = search needs
@@ -20,8 +30,8 @@ same-length c = search needs
 returns : tie.Need-returns
 unfolding collection
 returns c =
-    let print-collected = c .before .before .before .before .before .before .print-collected in
-    printed-both (print-collected .ensures) (c .before .before .print-entries .ensures)
+    let at-print-collected = c .before .before .before .before .before .before in
+    printed-both (at-print-collected .print-collected .ensures) (c .before .before .print-entries .ensures)
 
 pub print-collection-spec : {M : Type 1} → statement M
 print-collection-spec =

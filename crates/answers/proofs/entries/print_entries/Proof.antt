@@ -60,7 +60,9 @@ shared-slice-read-print-entry-3 : tie.Need-shared-slice-read-print-entry-3 Inv-l
 shared-slice-read-print-entry-3 c = search needs
 
 print-entry-requires : tie.Need-print-entry-requires Inv-loop μ-loop
-print-entry-requires c κs = omega (arith, printed-length (c .before .before .before .before .before .loop .inv .2))
+print-entry-requires c κs =
+    let at-loop = c .before .before .before .before .before in
+    omega (arith, printed-length (at-loop .loop .inv .2))
 
 add-i : tie.Need-add-i Inv-loop μ-loop
 add-i c = search needs
@@ -70,13 +72,23 @@ loop-less c = search needs
 
 loop-again : tie.Need-loop-again Inv-loop μ-loop
 loop-again c =
-    let l = now (c .before .before .before .before .before .before .before .before .before .before .before .args .list) in
-    let i = c .before .before .before .before .before .before .before .before .loop .i in
+    let at-shared-slice-known4 = c .before .before .before in
+    let at-loop = at-shared-slice-known4 .before .before .before .before .before in
+    let s = at-loop .before .before .before in
+    let l = now (s .args .list) in
+    let i = at-loop .loop .i in
     let p = c .before .before .print-entry .ensures in
-    let known = c .before .before .before .shared-slice-known4 .given in (
+    let known = at-shared-slice-known4 .shared-slice-known4 .given in (
       search needs,
-      omega (arith, p .behind, entry-short (number-at l (3 * i)) (number-at l (3 * i + 1)) (number-at l (3 * i + 2)) (search (needs, known (3 * i))) (search (needs, known (3 * i + 1))) (search (needs, known (3 * i + 2)))),
-      printed-as (entries-more l i) (printed-both (c .before .before .before .before .before .before .before .before .loop .inv .2) p),
+      omega (
+        arith,
+        p .behind,
+        entry-short (number-at l (3 * i)) (number-at l (3 * i + 1))
+            (number-at l (3 * i + 2)) (search (needs, known (3 * i))) (search (needs, known (3 * i + 1)))
+            (search (needs, known (3 * i + 2))),
+      ),
+      printed-as (entries-more l i)
+          (printed-both (at-loop .loop .inv .2) p),
     )
 
 same-length : tie.Need-same-length Inv-loop μ-loop
@@ -84,8 +96,9 @@ same-length c = printed-length (c .before .loop .inv .2)
 
 returns : tie.Need-returns Inv-loop μ-loop
 returns c =
-    let e : c .before .loop .i ≡ c .before .before .before .before .args .entries = omega arith in
-    printed-as (ap (entryLines (now (c .before .before .before .before .args .list))) e) (c .before .loop .inv .2)
+    let s = c .before .before .before .before in
+    let e : c .before .loop .i ≡ s .args .entries = omega arith in
+    printed-as (ap (entryLines (now (s .args .list))) e) (c .before .loop .inv .2)
 
 pub print-entries-spec : {M : Type 1} → statement M
 print-entries-spec =

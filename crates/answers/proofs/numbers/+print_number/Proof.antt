@@ -76,8 +76,11 @@ print-number-print-number-requires : (t : ℕ) → print-number-lts.Need-print-n
   print-number.Post,
 ) (print-number-at t) print-number.Post
 print-number-print-number-requires t c κs =
-    let s = c .before .before .before .args in
-    (omega (arith, c .before .before .before .pre .0, c .before .if1 .left), omega (arith, c .before .before .before .pre .1, digits-short (s .n) (omega arith)))
+    let s = c .before .before .before in (
+      omega (arith, s .pre .0, c .before .if1 .left),
+      omega
+          (arith, s .pre .1, digits-short (s .args .n) (omega arith)),
+    )
 
 print-number-cast-out-2 : (t : ℕ) → print-number-lts.Need-cast-out-2 (
   print-number-below t,

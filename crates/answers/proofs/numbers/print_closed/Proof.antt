@@ -39,10 +39,10 @@ same-length c = search needs
 returns : tie.Need-returns
 unfolding closed
 returns c =
-    let args = c .before .before .before .before .before .args in
+    let s = c .before .before .before .before .before in
     printed-both (c .before .before .print-number .ensures)
     (printed-byte (c .before .before .print-number .last .0) (c .before .before .print-number .result)
-    (args .end))
+    (s .args .end))
 
 pub print-closed-spec : {M : Type 1} → statement M
 print-closed-spec =

@@ -12,15 +12,15 @@ print-closed-requires c κs =
 
 print-closed-requires-2 : tie.Need-print-closed-requires-2
 print-closed-requires-2 c κs =
-    let s = c .before .before .before .before .before .before in
-    let print-closed = c .before .before .before .print-closed in
+    let at-print-closed = c .before .before .before in
+    let s = at-print-closed .before .before .before in
     omega (
       arith,
       s .pre,
       closed-64 (s .args .line) 44 (search needs),
       closed-32 (s .args .number) 10 (search needs),
-      print-closed .ensures .behind,
-      print-closed .kept .0,
+      at-print-closed .print-closed .ensures .behind,
+      at-print-closed .print-closed .kept .0,
     )
 
 same-length : tie.Need-same-length
@@ -28,10 +28,10 @@ same-length c = search needs
 
 returns : tie.Need-returns
 returns c =
-    let s = c .before .before .before .before .before .before .before .before .before in
-    let print-closed = c .before .before .before .before .before .before .print-closed in
+    let at-print-closed = c .before .before .before .before .before .before in
+    let s = at-print-closed .before .before .before in
     printed-as (answer-parts (s .args .line) (s .args .number))
-    (printed-both (print-closed .ensures) (c .before .before .print-closed2 .ensures))
+    (printed-both (at-print-closed .print-closed .ensures) (c .before .before .print-closed2 .ensures))
 
 pub print-answer-spec : {M : Type 1} → statement M
 print-answer-spec =

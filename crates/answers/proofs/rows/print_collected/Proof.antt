@@ -12,22 +12,22 @@ print-closed-requires c κs =
 
 print-closed-requires-2 : tie.Need-print-closed-requires-2
 print-closed-requires-2 c κs =
-    let s = c .before .before .before .before .before .before in
-    let print-closed = c .before .before .before .print-closed in
+    let at-print-closed = c .before .before .before in
+    let s = at-print-closed .before .before .before in
     omega (
       arith,
       s .pre,
       closed-64 (s .args .line) 44 (search needs),
       closed-32 0 44 (omega arith),
-      print-closed .ensures .behind,
-      print-closed .kept .0,
+      at-print-closed .print-closed .ensures .behind,
+      at-print-closed .print-closed .kept .0,
     )
 
 print-closed-requires-3 : tie.Need-print-closed-requires-3
 print-closed-requires-3 c κs =
-    let s = c .before .before .before .before .before .before .before .before .before .before in
-    let print-closed = c .before .before .before .before .before .before .before .print-closed in
-    let print-closed2 = c .before .before .before .print-closed2 in
+    let at-print-closed2 = c .before .before .before in
+    let at-print-closed = at-print-closed2 .before .before .before .before in
+    let s = at-print-closed .before .before .before in
     omega (
       arith,
       s .pre,
@@ -35,18 +35,18 @@ print-closed-requires-3 c κs =
       closed-32 0 44 (omega arith),
       closed-32
           (s .args .steps) 44 (search needs),
-      print-closed .ensures .behind,
-      print-closed .kept .0,
-      print-closed2 .ensures .behind,
-      print-closed2 .kept .0,
+      at-print-closed .print-closed .ensures .behind,
+      at-print-closed .print-closed .kept .0,
+      at-print-closed2 .print-closed2 .ensures .behind,
+      at-print-closed2 .print-closed2 .kept .0,
     )
 
 print-closed-requires-4 : tie.Need-print-closed-requires-4
 print-closed-requires-4 c κs =
-    let s = c .before .before .before .before .before .before .before .before .before .before .before .before .before .before in
-    let print-closed = c .before .before .before .before .before .before .before .before .before .before .before .print-closed in
-    let print-closed2 = c .before .before .before .before .before .before .before .print-closed2 in
-    let print-closed3 = c .before .before .before .print-closed3 in
+    let at-print-closed3 = c .before .before .before in
+    let at-print-closed2 = at-print-closed3 .before .before .before .before in
+    let at-print-closed = at-print-closed2 .before .before .before .before in
+    let s = at-print-closed .before .before .before in
     omega (
       arith,
       s .pre,
@@ -55,12 +55,12 @@ print-closed-requires-4 c κs =
       closed-32
           (s .args .steps) 44 (search needs),
       closed-32 (s .args .entries) 10 (search needs),
-      print-closed .ensures .behind,
-      print-closed .kept .0,
-      print-closed2 .ensures .behind,
-      print-closed2 .kept .0,
-      print-closed3 .ensures .behind,
-      print-closed3 .kept .0,
+      at-print-closed .print-closed .ensures .behind,
+      at-print-closed .print-closed .kept .0,
+      at-print-closed2 .print-closed2 .ensures .behind,
+      at-print-closed2 .print-closed2 .kept .0,
+      at-print-closed3 .print-closed3 .ensures .behind,
+      at-print-closed3 .print-closed3 .kept .0,
     )
 
 same-length : tie.Need-same-length
@@ -68,13 +68,14 @@ same-length c = search needs
 
 returns : tie.Need-returns
 returns c =
-    let s = c .before .before .before .before .before .before .before .before .before .before .before .before .before .before .before .before .before in
-    let print-closed = c .before .before .before .before .before .before .before .before .before .before .before .before .before .before .print-closed in
-    let print-closed2 = c .before .before .before .before .before .before .before .before .before .before .print-closed2 in
-    let print-closed3 = c .before .before .before .before .before .before .print-closed3 in
+    let at-print-closed3 = c .before .before .before .before .before .before in
+    let at-print-closed2 = at-print-closed3 .before .before .before .before in
+    let at-print-closed = at-print-closed2 .before .before .before .before in
+    let s = at-print-closed .before .before .before in
     printed-as (collected-parts (s .args .line) (s .args .steps) (s .args .entries))
-    (printed-both (print-closed .ensures) (printed-both (print-closed2 .ensures)
-    (printed-both (print-closed3 .ensures) (c .before .before .print-closed4 .ensures))))
+    (printed-both (at-print-closed .print-closed .ensures)
+    (printed-both (at-print-closed2 .print-closed2 .ensures)
+    (printed-both (at-print-closed3 .print-closed3 .ensures) (c .before .before .print-closed4 .ensures))))
 
 pub print-collected-spec : {M : Type 1} → statement M
 print-collected-spec =

@@ -12,32 +12,32 @@ print-closed-requires c κs =
 
 print-closed-requires-2 : tie.Need-print-closed-requires-2
 print-closed-requires-2 c κs =
-    let s = c .before .before .before .before .before .before in
-    let print-closed = c .before .before .before .print-closed in
+    let at-print-closed = c .before .before .before in
+    let s = at-print-closed .before .before .before in
     omega (
       arith,
       s .pre,
       closed-32 (s .args .oid) 44 (search needs),
       closed-32 (s .args .x) 44 (search needs),
-      print-closed .ensures .behind,
-      print-closed .kept .0,
+      at-print-closed .print-closed .ensures .behind,
+      at-print-closed .print-closed .kept .0,
     )
 
 print-closed-requires-3 : tie.Need-print-closed-requires-3
 print-closed-requires-3 c κs =
-    let s = c .before .before .before .before .before .before .before .before .before .before in
-    let print-closed = c .before .before .before .before .before .before .before .print-closed in
-    let print-closed2 = c .before .before .before .print-closed2 in
+    let at-print-closed2 = c .before .before .before in
+    let at-print-closed = at-print-closed2 .before .before .before .before in
+    let s = at-print-closed .before .before .before in
     omega (
       arith,
       s .pre,
       closed-32 (s .args .oid) 44 (search needs),
       closed-32 (s .args .x) 44 (search needs),
       closed-32 (s .args .y) 10 (search needs),
-      print-closed .ensures .behind,
-      print-closed .kept .0,
-      print-closed2 .ensures .behind,
-      print-closed2 .kept .0,
+      at-print-closed .print-closed .ensures .behind,
+      at-print-closed .print-closed .kept .0,
+      at-print-closed2 .print-closed2 .ensures .behind,
+      at-print-closed2 .print-closed2 .kept .0,
     )
 
 same-length : tie.Need-same-length
@@ -45,12 +45,12 @@ same-length c = search needs
 
 returns : tie.Need-returns
 returns c =
-    let s = c .before .before .before .before .before .before .before .before .before .before .before .before .before in
-    let print-closed = c .before .before .before .before .before .before .before .before .before .before .print-closed in
-    let print-closed2 = c .before .before .before .before .before .before .print-closed2 in
+    let at-print-closed2 = c .before .before .before .before .before .before in
+    let at-print-closed = at-print-closed2 .before .before .before .before in
+    let s = at-print-closed .before .before .before in
     printed-as (entry-parts (s .args .oid) (s .args .x) (s .args .y))
-    (printed-both (print-closed .ensures) (printed-both (print-closed2 .ensures)
-    (c .before .before .print-closed3 .ensures)))
+    (printed-both (at-print-closed .print-closed .ensures)
+    (printed-both (at-print-closed2 .print-closed2 .ensures) (c .before .before .print-closed3 .ensures)))
 
 pub print-entry-spec : {M : Type 1} → statement M
 print-entry-spec =

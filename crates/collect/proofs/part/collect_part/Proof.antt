@@ -19,14 +19,15 @@ collect-requires c κs = search needs
 
 slice-aggregate-result : tie.Need-slice-aggregate-result
 slice-aggregate-result c =
-    let collect = c .before .before .before .collect in
-    sym (length-take-le _ _ (part-within (whole (c .before .before .before .before .before .before .before)) _ _ _ _
-    (collect .ensures)))
+    let at-collect = c .before .before .before in
+    let s = at-collect .before .before .before .before in
+    sym (length-take-le _ _ (part-within (whole s) _ _ _ _ (at-collect .collect .ensures)))
 
 returns : tie.Need-returns
 returns c =
-    let collect = c .before .before .before .collect in
-    part-handed (whole (c .before .before .before .before .before .before .before)) _ _ _ _ (collect .ensures)
+    let at-collect = c .before .before .before in
+    let s = at-collect .before .before .before .before in
+    part-handed (whole s) _ _ _ _ (at-collect .collect .ensures)
 
 pub collect-part-spec : {M : Type 1} → statement M
 collect-part-spec = tie.close (tie.spec collect-requires slice-aggregate-result returns)

@@ -36,8 +36,9 @@ accepted c = accepted-passed _ _ _ _ _ (c .before .before .admit .ensures) _ (c 
 -- so the words are all there
 lent : (c : tie.After-admission2) → length (now (c .before .before .before .before .before .before .args .words)) ≡ WORDS
 lent c =
-    let s = c .before .before .before .before .before .before in
-    words-said (now (s .args .words)) (now (s .args .times)) (sized (c .before .before .before) ∙ accepted c .sizes) .0
+    let at-3 = c .before .before .before in
+    let s = at-3 .before .before .before in
+    words-said (now (s .args .words)) (now (s .args .times)) (sized at-3 ∙ accepted c .sizes) .0
 
 right-words-requires : tie.Need-right-words-requires
 right-words-requires c κs = search needs
@@ -68,34 +69,36 @@ mul-write-entries c = search needs
 
 write-entries-requires : tie.Need-write-entries-requires
 write-entries-requires c κs =
-    let args = c .before .before .before .before .before .before .before .before .before .before .args in (
-      long (now (args .words)) (lent (c .before .before .before .before)) HITS HITS-SIZE (omega arith),
-      omega (
-        arith,
-        accepted (c .before .before .before .before) .lane,
-        accepted
-            (c .before .before .before .before) .few,
-      ),
-      accepted (c .before .before .before .before) .room,
+    let at-4 = c .before .before .before .before in
+    let s = at-4 .before .before .before .before .before .before in (
+      long (now (s .args .words)) (lent at-4) HITS HITS-SIZE (omega arith),
+      omega
+          (arith, accepted at-4 .lane, accepted at-4 .few),
+      accepted at-4 .room,
     )
 
 idle-requires : tie.Need-idle-requires
 idle-requires c κs = search needs
 
 mul-after : tie.Need-mul-after
-mul-after c = omega (arith, accepted (c .before .before .before .before .before .before .before .before) .lane)
+mul-after c =
+    let at-8 = c .before .before .before .before .before .before .before .before in
+    omega (arith, accepted at-8 .lane)
 
 array-set-from-after : tie.Need-array-set-from-after
-array-set-from-after c = accepted (c .before .before .before .before .before .before .before .before) .lane
+array-set-from-after c =
+    let at-8 = c .before .before .before .before .before .before .before .before in
+    accepted at-8 .lane
 
 mul-t21 : tie.Need-mul-t21
 mul-t21 c = search needs
 
 returns : tie.Need-returns
 returns c =
-    let admit = c .before .before .before .admit in
-    handed-none _ _ _ _ _ (admit .ensures) (whole (c .before .before .before .before .before .before .before))
-    (sized (c .before .before .before .before)) _ (c .before .admission .given .1)
+    let at-admit = c .before .before .before in
+    let at-4 = at-admit .before in
+    let s = at-4 .before .before .before in
+    handed-none _ _ _ _ _ (at-admit .admit .ensures) (whole s) (sized at-4) _ (c .before .admission .given .1)
 
 same-length : tie.Need-same-length
 same-length c = search needs
@@ -103,12 +106,14 @@ same-length c = search needs
 returns-2 : tie.Need-returns-2
 unfolding grid
 returns-2 c =
-    let args = c .before .before .before .before .before .before .before .before .before .before .before .before .before .before .args in
-    let admit = c .before .before .before .before .before .before .before .before .before .before .admit in
-    let admission2 = c .before .before .before .before .before .before .before .before .admission2 in
-    let write-entries = c .before .before .before .write-entries in
-    handed-over _ _ _ _ _ (admit .ensures) (whole
-    (c .before .before .before .before .before .before .before .before .before .before .before .before .before .before)) (sized (c .before .before .before .before .before .before .before .before .before .before .before)) _ (admission2 .given .1) (hitsAt (hitsIn (now (args .words)))) refl _ (write-entries .ensures) _ (c .idle .ensures) _ (omega arith) _ (omega arith)
+    let at-write-entries = c .before .before .before in
+    let at-admission2 = at-write-entries .before .before .before .before .before in
+    let at-admit = at-admission2 .before .before in
+    let at-11 = at-admit .before in
+    let s = at-11 .before .before .before in
+    handed-over _ _ _ _ _ (at-admit .admit .ensures) (whole s) (sized at-11) _ (at-admission2 .admission2 .given .1)
+    (hitsAt (hitsIn (now (s .args .words)))) refl _ (at-write-entries .write-entries .ensures) _
+    (c .idle .ensures) _ (omega arith) _ (omega arith)
 
 pub collect-spec : {M : Type 1} → statement M
 collect-spec =

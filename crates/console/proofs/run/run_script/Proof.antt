@@ -36,105 +36,112 @@ no-progress-requires c κs = tt
 
 loop-holds : tie.Need-loop-holds Inv-loop μ-loop
 loop-holds c =
-    let words2 = c .before .before .before .before .words2 in
-    let times2 = c .before .before .before .times2 in (
+    let at-times2 = c .before .before .before in
+    let at-words2 = at-times2 .before in (
       record {
-        words = sym (words2 .given);
-        times = sym (times2 .given);
+        words = sym (at-words2 .words2 .given);
+        times = sym (at-times2 .times2 .given);
         list = refl;
-        block = refl;
-        line = refl;
-        out =
+        block =
             refl;
+        line = refl;
+        out = refl;
       },
       zero-below (c .no-progress .ensures .0),
-      zero-below (c .no-progress .ensures .2),
+      zero-below
+          (c .no-progress .ensures .2),
     )
 
 slice-aggregate-next-line : tie.Need-slice-aggregate-next-line Inv-loop μ-loop
 slice-aggregate-next-line c = c .before .before .loop .inv .0 .block
 
 slice-aggregate-next-line-2 : tie.Need-slice-aggregate-next-line-2 Inv-loop μ-loop
-slice-aggregate-next-line-2 c = c .before .before .before .loop .inv .0 .line
+slice-aggregate-next-line-2 c =
+    let at-loop = c .before .before .before in
+    at-loop .loop .inv .0 .line
 
 slice-aggregate-next-line-3 : tie.Need-slice-aggregate-next-line-3 Inv-loop μ-loop
-slice-aggregate-next-line-3 c = c .before .before .before .before .loop .inv .0 .out
+slice-aggregate-next-line-3 c =
+    let at-loop = c .before .before .before .before in
+    at-loop .loop .inv .0 .out
 
 next-line-requires : tie.Need-next-line-requires Inv-loop μ-loop
 next-line-requires c κs =
-    let loop = c .before .before .before .before .loop in
-    next-asked (loop .inv .0 .block) (loop .inv .0 .line) (loop .inv .0 .out) (loop .inv .1) (loop .inv .2)
+    let at-loop = c .before .before .before .before in
+    next-asked (at-loop .loop .inv .0 .block) (at-loop .loop .inv .0 .line) (at-loop .loop .inv .0 .out)
+    (at-loop .loop .inv .1) (at-loop .loop .inv .2)
 
 add-number : tie.Need-add-number Inv-loop μ-loop
 add-number c =
-    let loop = c .before .before .before .before .before .before .before .before .before .loop in
-    let loop-test = c .before .before .before .before .before .before .before .before .loop-test in
-    next-fits (loop .number) (loop-test .taken)
+    let at-loop-test = c .before .before .before .before .before .before .before .before in
+    let at-loop = at-loop-test .before in
+    next-fits (at-loop .loop .number) (at-loop-test .loop-test .taken)
 
 array-share-prefix-line : tie.Need-array-share-prefix-line Inv-loop μ-loop
 array-share-prefix-line c =
-    let next-line = c .before .before .before .before .next-line in
-    still (next-line .ensures .1) (sym (c .before .before .line2 .given))
+    let at-next-line = c .before .before .before .before in
+    still (at-next-line .next-line .ensures .1) (sym (c .before .before .line2 .given))
 
 slice-aggregate-answer-line : tie.Need-slice-aggregate-answer-line Inv-loop μ-loop
 slice-aggregate-answer-line c =
-    let next-line = c .before .before .before .before .before .next-line in
-    let line2 = c .before .before .before .line2 in
-    sym (length-take-le _ _ (still (next-line .ensures .1) (sym (line2 .given))))
+    let at-line2 = c .before .before .before in
+    let at-next-line = at-line2 .before .before in
+    sym (length-take-le _ _ (still (at-next-line .next-line .ensures .1) (sym (at-line2 .line2 .given))))
 
 slice-aggregate-answer-line-2 : tie.Need-slice-aggregate-answer-line-2 Inv-loop μ-loop
 slice-aggregate-answer-line-2 c =
-    let loop = c .before .before .before .before .before .before .before .before .before .before .before .loop in
-    loop .inv .0 .out
+    let at-loop = c .before .before .before .before .before .before .before .before .before .before .before in
+    at-loop .loop .inv .0 .out
 
 slice-aggregate-answer-line-3 : tie.Need-slice-aggregate-answer-line-3 Inv-loop μ-loop
 slice-aggregate-answer-line-3 c =
-    let loop = c .before .before .before .before .before .before .before .before .before .before .before .before .loop in
-    loop .inv .0 .list
+    let at-loop = c .before .before .before .before .before .before .before .before .before .before .before .before in
+    at-loop .loop .inv .0 .list
 
 slice-aggregate-answer-line-4 : tie.Need-slice-aggregate-answer-line-4 Inv-loop μ-loop
 slice-aggregate-answer-line-4 c =
-    let loop = c .before .before .before .before .before .before .before .before .before .before .before .before .before .loop in
-    loop .inv .0 .words
+    let at-loop = c .before .before .before .before .before .before .before .before .before .before .before .before .before in
+    at-loop .loop .inv .0 .words
 
 slice-aggregate-answer-line-5 : tie.Need-slice-aggregate-answer-line-5 Inv-loop μ-loop
 slice-aggregate-answer-line-5 c =
-    let loop = c .before .before .before .before .before .before .before .before .before .before .before .before .before .before .loop in
-    loop .inv .0 .times
+    let at-loop = c .before .before .before .before .before .before .before .before .before .before .before .before .before .before in
+    at-loop .loop .inv .0 .times
 
 answer-line-requires : tie.Need-answer-line-requires Inv-loop μ-loop
 answer-line-requires c κs =
-    let loop = c .before .before .before .before .before .before .before .before .before .before .before .before .before .before .loop in
-    let next-line = c .before .before .before .before .before .before .before .before .before .next-line in
-    answer-asked (next-line .ensures .2) (loop .inv .0 .out) (loop .inv .0 .list)
+    let at-next-line = c .before .before .before .before .before .before .before .before .before in
+    let at-loop = at-next-line .before .before .before .before .before in
+    answer-asked (at-next-line .next-line .ensures .2) (at-loop .loop .inv .0 .out) (at-loop .loop .inv .0 .list)
 
 loop-less : tie.Need-loop-less Inv-loop μ-loop
 loop-less c =
-    let loop = c .before .before .before .before .before .before .before .before .before .before .before .before .before .before .before .before .before .before .before .before .before .loop in
-    let loop-test = c .before .before .before .before .before .before .before .before .before .before .before .before .before .before .before .before .before .before .before .before .loop-test in
-    count-down (loop .number) (loop-test .taken)
+    let at-loop-test = c .before .before .before .before .before .before .before .before .before .before .before .before .before .before .before .before .before .before .before .before in
+    let at-loop = at-loop-test .before in
+    count-down (at-loop .loop .number) (at-loop-test .loop-test .taken)
 
 loop-again : tie.Need-loop-again Inv-loop μ-loop
 loop-again c =
-    let loop = c .before .before .before .before .before .before .before .before .before .before .before .before .before .before .before .before .before .before .before .before .before .loop in
-    let next-line = c .before .before .before .before .before .before .before .before .before .before .before .before .before .before .before .before .next-line in
-    let block2 = c .before .before .before .before .before .before .before .before .before .before .before .before .before .before .before .block2 in
-    let line2 = c .before .before .before .before .before .before .before .before .before .before .before .before .before .before .line2 in
-    let answer-line = c .before .before .before .before .before .before .answer-line in
-    let out3 = c .before .before .before .before .before .out3 in
-    let list2 = c .before .before .before .before .list2 in
-    let words4 = c .before .before .before .words4 in (
+    let at-words4 = c .before .before .before in
+    let at-list2 = at-words4 .before in
+    let at-out3 = at-list2 .before in
+    let at-answer-line = at-out3 .before in
+    let at-line2 = at-answer-line .before .before .before .before .before .before .before .before in
+    let at-block2 = at-line2 .before in
+    let at-next-line = at-block2 .before in
+    let at-loop = at-next-line .before .before .before .before .before in (
       record {
-        words = sym (words4 .given);
+        words = sym (at-words4 .words4 .given);
         times = sym (c .before .before .times4 .given);
-        list = sym (list2 .given);
-        block = sym (block2 .given);
-        line = sym (line2 .given);
-        out = sym (out3 .given);
+        list = sym
+            (at-list2 .list2 .given);
+        block = sym (at-block2 .block2 .given);
+        line = sym (at-line2 .line2 .given);
+        out
+            = sym (at-out3 .out3 .given);
       },
-      still
-          (next-line .ensures .0) (block2 .given),
-      still (answer-line .ensures .fits) (sym (loop .inv .0 .out)),
+      still (at-next-line .next-line .ensures .0) (at-block2 .block2 .given),
+      still (at-answer-line .answer-line .ensures .fits) (sym (at-loop .loop .inv .0 .out)),
     )
 
 -- what waits where the loop was left: as before its test, or as the last call of next_line left it

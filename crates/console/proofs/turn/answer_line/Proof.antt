@@ -9,30 +9,37 @@ line-step-requires c κs = tt
 
 print-step-requires : tie.Need-print-step-requires
 print-step-requires c κs =
-    let s = c .before .before .before .before .before .before .before .before .before .before .before .before .before .before .before in
-    let line-step = c .before .before .before .before .before .before .before .line-step in
-    let list = c .before .before .before .before .before .before .list in
-    print-asked _ _ _ _ _ _ _ _ (line-step .ensures) (s .pre .0) (list .given) (s .pre .1)
+    let at-list = c .before .before .before .before .before .before in
+    let at-line-step = at-list .before in
+    let s = at-line-step .before .before .before .before .before .before .before .before in
+    print-asked _ _ _ _ _ _ _ _ (at-line-step .line-step .ensures) (s .pre .0) (at-list .list .given) (s .pre .1)
 
 same-length : tie.Need-same-length
-same-length c = c .before .before .before .out .given
+same-length c =
+    let at-out = c .before .before .before in
+    at-out .out .given
 
 same-length-2 : tie.Need-same-length-2
 same-length-2 c =
-    let list = c .before .before .before .before .before .before .before .before .before .before .before .list in
-    list .given
+    let at-list = c .before .before .before .before .before .before .before .before .before .before .before in
+    at-list .list .given
 
 same-length-3 : tie.Need-same-length-3
-same-length-3 c = c .before .before .before .before .before .before .before .before .before .words .given
+same-length-3 c =
+    let at-words = c .before .before .before .before .before .before .before .before .before in
+    at-words .words .given
 
 same-length-4 : tie.Need-same-length-4
-same-length-4 c = c .before .before .before .before .before .before .before .times .given
+same-length-4 c =
+    let at-times = c .before .before .before .before .before .before .before in
+    at-times .times .given
 
 returns : tie.Need-returns
 returns c =
-    let line-step = c .before .before .before .before .before .before .before .before .before .before .before .before .line-step in
-    let print-step = c .before .before .before .before .print-step in
-    turn-made _ _ _ _ _ _ _ _ (line-step .ensures) _ _ _ _ _ (print-step .ensures .0) (print-step .ensures .1)
+    let at-print-step = c .before .before .before .before in
+    let at-line-step = at-print-step .before .before .before .before .before .before .before .before in
+    turn-made _ _ _ _ _ _ _ _ (at-line-step .line-step .ensures) _ _ _ _ _ (at-print-step .print-step .ensures .0)
+    (at-print-step .print-step .ensures .1)
 
 pub answer-line-spec : {M : Type 1} → statement M
 answer-line-spec =

@@ -68,51 +68,55 @@ enum-told-2 c = search needs
 
 same-length : tie.Need-same-length
 same-length c =
-    let s = c .before .before .before .before .before .before .before .before .before .before .before .before .before .before .before .before .before .before .before .before .before .before .before in
-    let fill-numbers = c .before .before .before .before .before .before .before .before .before .before .before .before .before .before .before .before .before .before .before .before .fill-numbers in
-    let fill-numbers2 = c .before .before .before .before .before .before .before .before .before .before .before .before .before .before .before .before .fill-numbers2 in
-    let fill-numbers3 = c .before .before .before .before .before .before .before .before .before .before .before .before .fill-numbers3 in
-    let fill-numbers4 = c .before .before .before .before .before .before .before .before .fill-numbers4 in
-    let refill-pool = c .before .before .before .before .refill-pool in
-    absurd (pool-refused (now (s .args .words)) _ (s .pre) (fill-numbers .ensures) _ (fill-numbers2 .ensures) _
-    (fill-numbers3 .ensures) _ (fill-numbers4 .ensures)
-    (changed-corrupt _ _ (refill _) (refill-pool .ensures) (c .enum-told2 .given .1) .0))
+    let at-refill-pool = c .before .before .before .before in
+    let at-fill-numbers4 = at-refill-pool .before .before .before .before in
+    let at-fill-numbers3 = at-fill-numbers4 .before .before .before .before in
+    let at-fill-numbers2 = at-fill-numbers3 .before .before .before .before in
+    let at-fill-numbers = at-fill-numbers2 .before .before .before .before in
+    let s = at-fill-numbers .before .before .before in
+    absurd (pool-refused (now (s .args .words)) _ (s .pre) (at-fill-numbers .fill-numbers .ensures) _
+    (at-fill-numbers2 .fill-numbers2 .ensures) _ (at-fill-numbers3 .fill-numbers3 .ensures) _
+    (at-fill-numbers4 .fill-numbers4 .ensures) (changed-corrupt _ _ (refill _)
+    (at-refill-pool .refill-pool .ensures) (c .enum-told2 .given .1) .0))
 
 returns : tie.Need-returns
 returns c =
-    let s = c .before .before .before .before .before .before .before .before .before .before .before .before .before .before .before .before .before .before .before .before .before .before .before in
-    let fill-numbers = c .before .before .before .before .before .before .before .before .before .before .before .before .before .before .before .before .before .before .before .before .fill-numbers in
-    let fill-numbers2 = c .before .before .before .before .before .before .before .before .before .before .before .before .before .before .before .before .fill-numbers2 in
-    let fill-numbers3 = c .before .before .before .before .before .before .before .before .before .before .before .before .fill-numbers3 in
-    let fill-numbers4 = c .before .before .before .before .before .before .before .before .fill-numbers4 in
-    let refill-pool = c .before .before .before .before .refill-pool in
-    absurd (pool-refused (now (s .args .words)) _ (s .pre) (fill-numbers .ensures) _ (fill-numbers2 .ensures) _
-    (fill-numbers3 .ensures) _ (fill-numbers4 .ensures)
-    (changed-corrupt _ _ (refill _) (refill-pool .ensures) (c .enum-told2 .given .1) .0))
+    let at-refill-pool = c .before .before .before .before in
+    let at-fill-numbers4 = at-refill-pool .before .before .before .before in
+    let at-fill-numbers3 = at-fill-numbers4 .before .before .before .before in
+    let at-fill-numbers2 = at-fill-numbers3 .before .before .before .before in
+    let at-fill-numbers = at-fill-numbers2 .before .before .before .before in
+    let s = at-fill-numbers .before .before .before in
+    absurd (pool-refused (now (s .args .words)) _ (s .pre) (at-fill-numbers .fill-numbers .ensures) _
+    (at-fill-numbers2 .fill-numbers2 .ensures) _ (at-fill-numbers3 .fill-numbers3 .ensures) _
+    (at-fill-numbers4 .fill-numbers4 .ensures) (changed-corrupt _ _ (refill _)
+    (at-refill-pool .refill-pool .ensures) (c .enum-told2 .given .1) .0))
 
 same-length-2 : tie.Need-same-length-2
 same-length-2 c =
-    let s = c .before .before .before .before .before .before .before .before .before .before .before .before .before .before .before .before .before .before .before .before .before .before .before in
-    let fill-numbers = c .before .before .before .before .before .before .before .before .before .before .before .before .before .before .before .before .before .before .before .before .fill-numbers in
-    let fill-numbers2 = c .before .before .before .before .before .before .before .before .before .before .before .before .before .before .before .before .fill-numbers2 in
-    let fill-numbers3 = c .before .before .before .before .before .before .before .before .before .before .before .before .fill-numbers3 in
-    let fill-numbers4 = c .before .before .before .before .before .before .before .before .fill-numbers4 in
-    let refill-pool = c .before .before .before .before .refill-pool in
-    pools-length (now (s .args .words)) _ (s .pre) (fill-numbers .ensures) _ (fill-numbers2 .ensures) _
-    (fill-numbers3 .ensures) _ (fill-numbers4 .ensures) _
-    (changed-done _ _ (refill _) (refill-pool .ensures) (c .enum-told .given .1))
+    let at-refill-pool = c .before .before .before .before in
+    let at-fill-numbers4 = at-refill-pool .before .before .before .before in
+    let at-fill-numbers3 = at-fill-numbers4 .before .before .before .before in
+    let at-fill-numbers2 = at-fill-numbers3 .before .before .before .before in
+    let at-fill-numbers = at-fill-numbers2 .before .before .before .before in
+    let s = at-fill-numbers .before .before .before in
+    pools-length (now (s .args .words)) _ (s .pre) (at-fill-numbers .fill-numbers .ensures) _
+    (at-fill-numbers2 .fill-numbers2 .ensures) _ (at-fill-numbers3 .fill-numbers3 .ensures) _
+    (at-fill-numbers4 .fill-numbers4 .ensures) _ (changed-done _ _ (refill _)
+    (at-refill-pool .refill-pool .ensures) (c .enum-told .given .1))
 
 returns-2 : tie.Need-returns-2
 returns-2 c =
-    let s = c .before .before .before .before .before .before .before .before .before .before .before .before .before .before .before .before .before .before .before .before .before .before .before in
-    let fill-numbers = c .before .before .before .before .before .before .before .before .before .before .before .before .before .before .before .before .before .before .before .before .fill-numbers in
-    let fill-numbers2 = c .before .before .before .before .before .before .before .before .before .before .before .before .before .before .before .before .fill-numbers2 in
-    let fill-numbers3 = c .before .before .before .before .before .before .before .before .before .before .before .before .fill-numbers3 in
-    let fill-numbers4 = c .before .before .before .before .before .before .before .before .fill-numbers4 in
-    let refill-pool = c .before .before .before .before .refill-pool in
-    to-empty (now (s .args .words)) _ (s .pre) (fill-numbers .ensures) _ (fill-numbers2 .ensures) _
-    (fill-numbers3 .ensures) _ (fill-numbers4 .ensures) _
-    (changed-done _ _ (refill _) (refill-pool .ensures) (c .enum-told .given .1))
+    let at-refill-pool = c .before .before .before .before in
+    let at-fill-numbers4 = at-refill-pool .before .before .before .before in
+    let at-fill-numbers3 = at-fill-numbers4 .before .before .before .before in
+    let at-fill-numbers2 = at-fill-numbers3 .before .before .before .before in
+    let at-fill-numbers = at-fill-numbers2 .before .before .before .before in
+    let s = at-fill-numbers .before .before .before in
+    to-empty (now (s .args .words)) _ (s .pre) (at-fill-numbers .fill-numbers .ensures) _
+    (at-fill-numbers2 .fill-numbers2 .ensures) _ (at-fill-numbers3 .fill-numbers3 .ensures) _
+    (at-fill-numbers4 .fill-numbers4 .ensures) _ (changed-done _ _ (refill _)
+    (at-refill-pool .refill-pool .ensures) (c .enum-told .given .1))
 
 pub empty-words-spec : {M : Type 1} → statement M
 empty-words-spec =

@@ -38,8 +38,8 @@ right-words-requires c κs = search needs
 
 returns : tie.Need-returns
 returns c =
-    reset-sizes (whole (c .before .before .before)) _ (sized (c .before)
-    (not-true (c .before .right-words .result) (c .if1 .taken)))
+    let s = c .before .before .before in
+    reset-sizes (whole s) _ (sized (c .before) (not-true (c .before .right-words .result) (c .if1 .taken)))
 
 empty-words-requires : tie.Need-empty-words-requires
 empty-words-requires c κs =
@@ -62,13 +62,15 @@ same-length-2 c = search needs
 
 returns-2 : tie.Need-returns-2
 returns-2 c =
-    let s = c .before .before .before .before .before .before .before .before .before .before .before .before in
-    let right = c .before .before .before .before .before .before .before .before .before .before in
-    let if1 = c .before .before .before .before .before .before .before .before .before .if1 in
-    let yes = not-false (right .right-words .result) (if1 .left) in
-    reset-done (whole s) _ _ (now (s .args .times)) _ (sized right yes) (lent right yes .1)
-    (c .before .before .before .before .before .before .before .empty-words .ensures)
-    (c .before .before .before .clear-times .ensures) (c .before .idle-updaters .ensures) (c .idle-queries .ensures)
+    let at-clear-times = c .before .before .before in
+    let at-empty-words = at-clear-times .before .before .before .before in
+    let at-if1 = at-empty-words .before .before in
+    let at-right-words = at-if1 .before in
+    let s = at-right-words .before .before in
+    let yes = not-false (at-right-words .right-words .result) (at-if1 .if1 .left) in
+    reset-done (whole s) _ _ (now (s .args .times)) _ (sized at-right-words yes) (lent at-right-words yes .1)
+    (at-empty-words .empty-words .ensures) (at-clear-times .clear-times .ensures)
+    (c .before .idle-updaters .ensures) (c .idle-queries .ensures)
 
 pub reset-spec : {M : Type 1} → statement M
 reset-spec =

@@ -47,17 +47,21 @@ slice-read-if1 c =
 returns-2 : tie.Need-returns-2
 unfolding tells leaves
 returns-2 c =
-    let s = c .before .before .before .before .before .before in
-    let found = c .before .before .before .s in
-    rw (insert-full (indexAt (now (s .args .index))) (s .args .oid) (sym (s .pre .1) ∙ found .given .1)
-    (λ z. c .if1 .taken (sym (oid-at (now (s .args .index)) (found .given .0 .0)
-    (empty-below (part 0 512 (now (s .args .index))) (s .args .oid) (sym (s .pre .1) ∙ found .given .1))) ∙ z)))
+    let at-s = c .before .before .before in
+    let s = at-s .before .before .before in
+    rw (insert-full (indexAt (now (s .args .index))) (s .args .oid) (sym (s .pre .1) ∙ at-s .s .given .1)
+    (λ z. c .if1 .taken (sym (oid-at (now (s .args .index)) (at-s .s .given .0 .0)
+    (empty-below (part 0 512 (now (s .args .index))) (s .args .oid) (sym (s .pre .1) ∙ at-s .s .given .1))) ∙
+    z)))
 
 put-new-requires : tie.Need-put-new-requires
 put-new-requires c κs =
-    let s = c .before .before .before .before .before .before .before in
-    let found = c .before .before .before .before .s in
-    (s .pre .0, (empty-below (part 0 512 (now (s .args .index))) (s .args .oid) (sym (s .pre .1) ∙ found .given .1)))
+    let at-s = c .before .before .before .before in
+    let s = at-s .before .before .before in (
+      s .pre .0,
+      (empty-below (part 0 512 (now (s .args .index))) (s .args .oid)
+          (sym (s .pre .1) ∙ at-s .s .given .1)),
+    )
 
 same-length : tie.Need-same-length
 same-length c = search needs
@@ -65,14 +69,14 @@ same-length c = search needs
 returns-3 : tie.Need-returns-3
 unfolding tells leaves
 returns-3 c =
-    let s = c .before .before .before .before .before .before .before .before .before .before in
-    let found = c .before .before .before .before .before .before .before .s in
-    let if1 = c .before .before .before .before .if1 in
+    let at-if1 = c .before .before .before .before in
+    let at-s = at-if1 .before .before .before in
+    let s = at-s .before .before .before in
     rw (
-      insert-empty (indexAt (now (s .args .index))) (s .args .oid) (sym (s .pre .1) ∙ found .given .1)
-          (oid-at (now (s .args .index)) (found .given .0 .0)
-          (empty-below (part 0 512 (now (s .args .index))) (s .args .oid) (sym (s .pre .1) ∙ found .given .1)) ∙
-          if1 .left),
+      insert-empty (indexAt (now (s .args .index))) (s .args .oid) (sym (s .pre .1) ∙ at-s .s .given .1)
+          (oid-at (now (s .args .index)) (at-s .s .given .0 .0)
+          (empty-below (part 0 512 (now (s .args .index))) (s .args .oid) (sym (s .pre .1) ∙ at-s .s .given .1)) ∙
+          at-if1 .if1 .left),
       c .before .before .put-new .ensures,
     )
 

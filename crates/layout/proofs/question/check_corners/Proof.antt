@@ -19,60 +19,63 @@ on-grid-requires-2 c κs = search needs
 returns-2 : tie.Need-returns-2
 unfolding corners cornersOn ordered pick
 returns-2 c =
-    let on-grid = c .before .before .before .on-grid in
+    let at-on-grid = c .before .before .before in
     rw (
-      ← on-grid .ensures,
-      not-false (on-grid .result) (c .before .before .if1 .left),
-      ← c .before .on-grid2 .ensures,
+      ← at-on-grid .on-grid .ensures,
+      not-false (at-on-grid .on-grid .result) (c .before .before .if1 .left),
+      ←
+          c .before .on-grid2 .ensures,
       not-true (c .before .on-grid2 .result) (c .if2 .taken),
     )
 
 returns-3 : tie.Need-returns-3
 unfolding corners cornersOn ordered pick
 returns-3 c =
-    let on-grid = c .before .before .before .before .before .on-grid in
-    let if1 = c .before .before .before .before .if1 in
-    let on-grid2 = c .before .before .before .on-grid2 in
+    let at-on-grid2 = c .before .before .before in
+    let at-if1 = at-on-grid2 .before in
+    let at-on-grid = at-if1 .before in
     rw (
-      ← on-grid .ensures,
-      not-false (on-grid .result) (if1 .left),
-      ← on-grid2 .ensures,
-      not-false (on-grid2 .result)
-          (c .before .before .if2 .left),
+      ← at-on-grid .on-grid .ensures,
+      not-false (at-on-grid .on-grid .result) (at-if1 .if1 .left),
+      ←
+          at-on-grid2 .on-grid2 .ensures,
+      not-false (at-on-grid2 .on-grid2 .result) (c .before .before .if2 .left),
       lt-leb _ _ (c .if3 .taken),
     )
 
 returns-4 : tie.Need-returns-4
 unfolding corners cornersOn ordered pick
 returns-4 c =
-    let on-grid = c .before .before .before .before .before .before .before .on-grid in
-    let if1 = c .before .before .before .before .before .before .if1 in
-    let on-grid2 = c .before .before .before .before .before .on-grid2 in
-    let if2 = c .before .before .before .before .if2 in
+    let at-if2 = c .before .before .before .before in
+    let at-on-grid2 = at-if2 .before in
+    let at-if1 = at-on-grid2 .before in
+    let at-on-grid = at-if1 .before in
     rw (
-      ← on-grid .ensures,
-      not-false (on-grid .result) (if1 .left),
-      ← on-grid2 .ensures,
-      not-false (on-grid2 .result)
-          (if2 .left),
-      le-leb _ _ (c .before .before .if3 .left),
+      ← at-on-grid .on-grid .ensures,
+      not-false (at-on-grid .on-grid .result) (at-if1 .if1 .left),
+      ←
+          at-on-grid2 .on-grid2 .ensures,
+      not-false (at-on-grid2 .on-grid2 .result) (at-if2 .if2 .left),
+      le-leb _ _
+          (c .before .before .if3 .left),
       lt-leb _ _ (c .if4 .taken),
     )
 
 returns-5 : tie.Need-returns-5
 unfolding corners cornersOn ordered pick
 returns-5 c =
-    let on-grid = c .before .before .before .before .before .before .before .on-grid in
-    let if1 = c .before .before .before .before .before .before .if1 in
-    let on-grid2 = c .before .before .before .before .before .on-grid2 in
-    let if2 = c .before .before .before .before .if2 in
+    let at-if2 = c .before .before .before .before in
+    let at-on-grid2 = at-if2 .before in
+    let at-if1 = at-on-grid2 .before in
+    let at-on-grid = at-if1 .before in
     rw (
-      ← on-grid .ensures,
-      not-false (on-grid .result) (if1 .left),
-      ← on-grid2 .ensures,
-      not-false (on-grid2 .result)
-          (if2 .left),
-      le-leb _ _ (c .before .before .if3 .left),
+      ← at-on-grid .on-grid .ensures,
+      not-false (at-on-grid .on-grid .result) (at-if1 .if1 .left),
+      ←
+          at-on-grid2 .on-grid2 .ensures,
+      not-false (at-on-grid2 .on-grid2 .result) (at-if2 .if2 .left),
+      le-leb _ _
+          (c .before .before .if3 .left),
       le-leb _ _ (c .if4 .left),
     )
 

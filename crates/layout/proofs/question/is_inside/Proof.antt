@@ -15,33 +15,31 @@ returns-2 c = rw (le-leb _ _ (c .before .before .if1 .left), lt-leb _ _ (c .if2 
 returns-3 : tie.Need-returns-3
 unfolding inside
 returns-3 c =
-    let if1 = c .before .before .before .before .if1 in
-    rw (le-leb _ _ (if1 .left), le-leb _ _ (c .before .before .if2 .left), lt-leb _ _ (c .if3 .taken))
+    let at-if1 = c .before .before .before .before in
+    rw (le-leb _ _ (at-if1 .if1 .left), le-leb _ _ (c .before .before .if2 .left), lt-leb _ _ (c .if3 .taken))
 
 returns-4 : tie.Need-returns-4
 unfolding inside
 returns-4 c =
-    let if1 = c .before .before .before .before .before .before .if1 in
-    let if2 = c .before .before .before .before .if2 in
+    let at-if2 = c .before .before .before .before in
+    let at-if1 = at-if2 .before .before in
     rw (
-      le-leb _ _ (if1 .left),
-      le-leb _ _ (if2 .left),
+      le-leb _ _ (at-if1 .if1 .left),
+      le-leb _ _ (at-if2 .if2 .left),
       le-leb _ _ (c .before .before .if3 .left),
-      lt-leb _ _
-          (c .if4 .taken),
+      lt-leb _ _ (c .if4 .taken),
     )
 
 returns-5 : tie.Need-returns-5
 unfolding inside
 returns-5 c =
-    let if1 = c .before .before .before .before .before .before .if1 in
-    let if2 = c .before .before .before .before .if2 in
+    let at-if2 = c .before .before .before .before in
+    let at-if1 = at-if2 .before .before in
     rw (
-      le-leb _ _ (if1 .left),
-      le-leb _ _ (if2 .left),
+      le-leb _ _ (at-if1 .if1 .left),
+      le-leb _ _ (at-if2 .if2 .left),
       le-leb _ _ (c .before .before .if3 .left),
-      le-leb _ _
-          (c .if4 .left),
+      le-leb _ _ (c .if4 .left),
     )
 
 pub is-inside-spec : {M : Type 1} → statement M

@@ -23,8 +23,8 @@ returns c =
 -- where the corners are accepted, the tests on them hold
 accepted : (c : tie.After-enum-told) → (cornersOn (c .before .before .before .args .q) && ordered (c .before .before .before .args .q)) ≡ true
 accepted c =
-    let args = c .before .before .before .args in
-    proper-iff (args .q) .0 (rw (c .enum-told .given .1) at (c .before .before .check-corners .ensures))
+    let s = c .before .before .before in
+    proper-iff (s .args .q) .0 (rw (c .enum-told .given .1) at (c .before .before .check-corners .ensures))
 
 returns-2 : tie.Need-returns-2
 unfolding visited
@@ -33,64 +33,69 @@ returns-2 c = rw (accepted (c .before), le-ltb _ _ (c .if1 .taken))
 returns-3 : tie.Need-returns-3
 unfolding visited
 returns-3 c =
-    rw (accepted (c .before .before .before), lt-ltb _ _ (c .before .before .if1 .left), lt-leb _ _ (c .if2 .taken))
+    let at-3 = c .before .before .before in
+    rw (accepted (at-3), lt-ltb _ _ (c .before .before .if1 .left), lt-leb _ _ (c .if2 .taken))
 
 returns-4 : tie.Need-returns-4
 unfolding visited
 returns-4 c =
-    let if1 = c .before .before .before .before .if1 in
+    let at-if1 = c .before .before .before .before in
+    let at-5 = at-if1 .before in
     rw (
-      accepted (c .before .before .before .before .before),
-      lt-ltb _ _ (if1 .left),
-      le-leb _ _
-          (c .before .before .if2 .left),
-      lt-leb _ _ (c .if3 .taken),
+      accepted (at-5),
+      lt-ltb _ _ (at-if1 .if1 .left),
+      le-leb _ _ (c .before .before .if2 .left),
+      lt-leb _ _
+          (c .if3 .taken),
     )
 
 returns-5 : tie.Need-returns-5
 unfolding visited
 returns-5 c =
-    let if1 = c .before .before .before .before .before .before .if1 in
-    let if2 = c .before .before .before .before .if2 in
+    let at-if2 = c .before .before .before .before in
+    let at-if1 = at-if2 .before .before in
+    let at-7 = at-if1 .before in
     rw (
-      accepted (c .before .before .before .before .before .before .before),
-      lt-ltb _ _ (if1 .left),
+      accepted (at-7),
+      lt-ltb _ _ (at-if1 .if1 .left),
+      le-leb _ _ (at-if2 .if2 .left),
       le-leb _ _
-          (if2 .left),
-      le-leb _ _ (c .before .before .if3 .left),
+          (c .before .before .if3 .left),
       lt-leb _ _ (c .if4 .taken),
     )
 
 returns-6 : tie.Need-returns-6
 unfolding visited
 returns-6 c =
-    let if1 = c .before .before .before .before .before .before .before .before .if1 in
-    let if2 = c .before .before .before .before .before .before .if2 in
-    let if3 = c .before .before .before .before .if3 in
+    let at-if3 = c .before .before .before .before in
+    let at-if2 = at-if3 .before .before in
+    let at-if1 = at-if2 .before .before in
+    let at-9 = at-if1 .before in
     rw (
-      accepted (c .before .before .before .before .before .before .before .before .before),
-      lt-ltb _ _ (if1 .left),
-      le-leb _ _ (if2 .left),
-      le-leb _ _ (if3 .left),
+      accepted (at-9),
+      lt-ltb _ _ (at-if1 .if1 .left),
+      le-leb _ _ (at-if2 .if2 .left),
+      le-leb _ _
+          (at-if3 .if3 .left),
       le-leb _ _ (c .before .before .if4 .left),
-      lt-leb _ _
-          (c .if5 .taken),
+      lt-leb _ _ (c .if5 .taken),
     )
 
 returns-7 : tie.Need-returns-7
 unfolding visited
 returns-7 c =
-    let if1 = c .before .before .before .before .before .before .before .before .if1 in
-    let if2 = c .before .before .before .before .before .before .if2 in
-    let if3 = c .before .before .before .before .if3 in
+    let at-if3 = c .before .before .before .before in
+    let at-if2 = at-if3 .before .before in
+    let at-if1 = at-if2 .before .before in
+    let at-9 = at-if1 .before in
     rw (
-      accepted (c .before .before .before .before .before .before .before .before .before),
-      lt-ltb _ _ (if1 .left),
-      le-leb _ _ (if2 .left),
-      le-leb _ _ (if3 .left),
-      le-leb _ _ (c .before .before .if4 .left),
+      accepted (at-9),
+      lt-ltb _ _ (at-if1 .if1 .left),
+      le-leb _ _ (at-if2 .if2 .left),
       le-leb _ _
-          (c .if5 .left),
+          (at-if3 .if3 .left),
+      le-leb _ _ (c .before .before .if4 .left),
+      le-leb _ _ (c .if5 .left),
     )
 
 pub is-visited-spec : {M : Type 1} → statement M

@@ -41,36 +41,45 @@ add-t8 : tie.Need-add-t8
 add-t8 c = search needs
 
 mul-t9 : tie.Need-mul-t9
-mul-t9 c = omega (arith, small (c .before .before .before .before))
+mul-t9 c =
+    let at-4 = c .before .before .before .before in
+    omega (arith, small at-4)
 
 add-t11 : tie.Need-add-t11
-add-t11 c = omega (arith, small (c .before .before .before .before .before))
+add-t11 c =
+    let at-5 = c .before .before .before .before .before in
+    omega (arith, small at-5)
 
 returns-3 : tie.Need-returns-3
 unfolding next need pick tells
 returns-3 c =
-    let last-cell = c .before .before .before .before .last-cell in
-    let if2 = c .before .before .before .if2 in
+    let at-if2 = c .before .before .before in
+    let at-last-cell = at-if2 .before in
+    let at-5 = at-last-cell .before in
     rw (
-      seen (c .before .before .before .before .before),
-      ← last-cell .ensures,
-      ne-eqb _ _ (if2 .left),
+      seen (at-5),
+      ← at-last-cell .last-cell .ensures,
+      ne-eqb _ _ (at-if2 .if2 .left),
       eq-eqb _ _
           (c .before .if3 .taken),
     )
 
 add-t5 : tie.Need-add-t5
-add-t5 c = omega (arith, small (c .before .before .before .before))
+add-t5 c =
+    let at-4 = c .before .before .before .before in
+    omega (arith, small at-4)
 
 returns-4 : tie.Need-returns-4
 unfolding next need pick tells
 returns-4 c =
-    let last-cell = c .before .before .before .last-cell in
+    let at-last-cell = c .before .before .before in
+    let at-4 = at-last-cell .before in
     rw (
-      seen (c .before .before .before .before),
-      ← last-cell .ensures,
+      seen (at-4),
+      ← at-last-cell .last-cell .ensures,
       ne-eqb _ _ (c .before .before .if2 .left),
-      ne-eqb _ _ (c .if3 .left),
+      ne-eqb _ _
+          (c .if3 .left),
     )
 
 pub next-cell-spec : {M : Type 1} → statement M

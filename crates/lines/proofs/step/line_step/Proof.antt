@@ -50,8 +50,9 @@ collect-requires c κs = search needs
 
 returns : tie.Need-returns
 returns c =
-    said-unreadable _ (c .before .before .parse .result) (c .before .before .parse .ensures)
-    (whole (c .before .before .before .before .before .before)) _ _ _ (c .enum-told .given .1)
+    let s = c .before .before .before .before .before .before in
+    said-unreadable _ (c .before .before .parse .result) (c .before .before .parse .ensures) (whole s) _ _ _
+    (c .enum-told .given .1)
 
 same-length : tie.Need-same-length
 same-length c = c .before .before .words .given
@@ -61,26 +62,29 @@ same-length-2 c = refl
 
 returns-2 : tie.Need-returns-2
 returns-2 c =
-    let parse = c .before .before .before .before .before .before .before .before .before .parse in
-    let command = c .before .before .before .before .before .before .before .command in
-    let update-start = c .before .before .before .update-start in
-    said-start-update _ (parse .result) (parse .ensures) (whole
-    (c .before .before .before .before .before .before .before .before .before .before .before .before .before))
-    _ _ _ _ _ _ (command .given .1) _ (update-start .ensures)
+    let at-update-start = c .before .before .before in
+    let at-command = at-update-start .before .before .before .before in
+    let at-parse = at-command .before .before in
+    let s = at-parse .before .before .before .before in
+    said-start-update _ (at-parse .parse .result) (at-parse .parse .ensures) (whole s) _ _ _ _ _ _
+    (at-command .command .given .1) _ (at-update-start .update-start .ensures)
 
 same-length-3 : tie.Need-same-length-3
-same-length-3 c = c .before .before .before .words2 .given
+same-length-3 c =
+    let at-words2 = c .before .before .before in
+    at-words2 .words2 .given
 
 same-length-4 : tie.Need-same-length-4
 same-length-4 c = c .before .times .given
 
 returns-3 : tie.Need-returns-3
 returns-3 c =
-    let parse = c .before .before .before .before .before .before .before .before .before .before .parse in
-    let command2 = c .before .before .before .before .before .before .before .before .command2 in
-    let update-step = c .before .before .before .before .update-step in
-    said-step-update _ (parse .result) (parse .ensures) (whole
-    (c .before .before .before .before .before .before .before .before .before .before .before .before .before .before)) _ _ _ _ _ _ (command2 .given .1) _ (update-step .ensures)
+    let at-update-step = c .before .before .before .before in
+    let at-command2 = at-update-step .before .before .before .before in
+    let at-parse = at-command2 .before .before in
+    let s = at-parse .before .before .before .before in
+    said-step-update _ (at-parse .parse .result) (at-parse .parse .ensures) (whole s) _ _ _ _ _ _
+    (at-command2 .command2 .given .1) _ (at-update-step .update-step .ensures)
 
 same-length-5 : tie.Need-same-length-5
 same-length-5 c = c .before .before .words3 .given
@@ -90,12 +94,12 @@ same-length-6 c = refl
 
 returns-4 : tie.Need-returns-4
 returns-4 c =
-    let parse = c .before .before .before .before .before .before .before .before .before .parse in
-    let command3 = c .before .before .before .before .before .before .before .command3 in
-    let query-start = c .before .before .before .query-start in
-    said-start-query _ (parse .result) (parse .ensures) (whole
-    (c .before .before .before .before .before .before .before .before .before .before .before .before .before))
-    _ _ _ _ _ _ (command3 .given .1) _ (query-start .ensures)
+    let at-query-start = c .before .before .before in
+    let at-command3 = at-query-start .before .before .before .before in
+    let at-parse = at-command3 .before .before in
+    let s = at-parse .before .before .before .before in
+    said-start-query _ (at-parse .parse .result) (at-parse .parse .ensures) (whole s) _ _ _ _ _ _
+    (at-command3 .command3 .given .1) _ (at-query-start .query-start .ensures)
 
 same-length-7 : tie.Need-same-length-7
 same-length-7 c = c .before .before .words4 .given
@@ -105,12 +109,12 @@ same-length-8 c = refl
 
 returns-5 : tie.Need-returns-5
 returns-5 c =
-    let parse = c .before .before .before .before .before .before .before .before .before .parse in
-    let command4 = c .before .before .before .before .before .before .before .command4 in
-    let query-step = c .before .before .before .query-step in
-    said-step-query _ (parse .result) (parse .ensures) (whole
-    (c .before .before .before .before .before .before .before .before .before .before .before .before .before))
-    _ _ _ _ _ _ (command4 .given .1) _ (query-step .ensures)
+    let at-query-step = c .before .before .before in
+    let at-command4 = at-query-step .before .before .before .before in
+    let at-parse = at-command4 .before .before in
+    let s = at-parse .before .before .before .before in
+    said-step-query _ (at-parse .parse .result) (at-parse .parse .ensures) (whole s) _ _ _ _ _ _
+    (at-command4 .command4 .given .1) _ (at-query-step .query-step .ensures)
 
 same-length-9 : tie.Need-same-length-9
 same-length-9 c = c .before .before .out .given
@@ -123,11 +127,12 @@ same-length-11 c = refl
 
 returns-6 : tie.Need-returns-6
 returns-6 c =
-    let parse = c .before .before .before .before .before .before .before .before .before .before .parse in
-    let command5 = c .before .before .before .before .before .before .before .before .command5 in
-    let collect = c .before .before .before .collect in
-    said-collect _ (parse .result) (parse .ensures) (whole
-    (c .before .before .before .before .before .before .before .before .before .before .before .before .before .before)) _ _ _ _ _ _ (command5 .given .1) _ _ _ _ (collect .ensures)
+    let at-collect = c .before .before .before in
+    let at-command5 = at-collect .before .before .before .before .before in
+    let at-parse = at-command5 .before .before in
+    let s = at-parse .before .before .before .before in
+    said-collect _ (at-parse .parse .result) (at-parse .parse .ensures) (whole s) _ _ _ _ _ _
+    (at-command5 .command5 .given .1) _ _ _ _ (at-collect .collect .ensures)
 
 pub line-step-spec : {M : Type 1} → statement M
 line-step-spec =

@@ -34,12 +34,11 @@ same-length c = search needs
 
 returns : tie.Need-returns
 returns c =
-    let s = c .before .before .before .before .before .before .before .before .before .before in
-    let s2 = c .before .before .before .before .before .before .before .s2 in
-    let if1 = c .before .before .before .before .if1 in
-    scan-leave (whole (c .before .before .before .before .before .before .before .before .before .before)) _ _
-    (s .args .q) _ _ _ (s2 .given .1) (if1 .taken) (c .before .before .leave-step .ensures
-    (now (s .args .times)))
+    let at-if1 = c .before .before .before .before in
+    let at-s2 = at-if1 .before .before .before in
+    let s = at-s2 .before .before .before in
+    scan-leave (whole s) _ _ (s .args .q) _ _ _ (at-s2 .s2 .given .1) (at-if1 .if1 .taken)
+    (c .before .before .leave-step .ensures (now (s .args .times)))
 
 read-step-requires : tie.Need-read-step-requires
 read-step-requires c κs = search needs
@@ -49,34 +48,34 @@ enum-told-2 c = search needs
 
 returns-2 : tie.Need-returns-2
 returns-2 c =
-    let args = c .before .before .before .args in
-    scan-idle (whole (c .before .before .before)) _ (args .q) (c .enum-told .given .1)
+    let s = c .before .before .before in
+    scan-idle (whole s) _ (s .args .q) (c .enum-told .given .1)
 
 same-length-2 : tie.Need-same-length-2
 same-length-2 c = search needs
 
 returns-3 : tie.Need-returns-3
 returns-3 c =
-    let s = c .before .before .before .before .before .before .before .before in
-    let found = c .before .before .before .before .before .s in
-    scan-enter (whole (c .before .before .before .before .before .before .before .before)) _ _ (s .args .q) _ _
-    (found .given .1) (c .before .before .enter-step .ensures (now (s .args .times)))
+    let at-s = c .before .before .before .before .before in
+    let s = at-s .before .before .before in
+    scan-enter (whole s) _ _ (s .args .q) _ _ (at-s .s .given .1)
+    (c .before .before .enter-step .ensures (now (s .args .times)))
 
 same-length-3 : tie.Need-same-length-3
 same-length-3 c = search needs
 
 returns-4 : tie.Need-returns-4
 returns-4 c =
-    let args = c .before .before .before .before .before .before .before .before .before .before .args in
-    let s2 = c .before .before .before .before .before .before .before .s2 in
-    let if1 = c .before .before .before .before .if1 in
-    scan-read (whole (c .before .before .before .before .before .before .before .before .before .before)) _ _ (args .q)
-    _ _ _ (s2 .given .1) (if1 .left) (c .before .before .read-step .ensures)
+    let at-if1 = c .before .before .before .before in
+    let at-s2 = at-if1 .before .before .before in
+    let s = at-s2 .before .before .before in
+    scan-read (whole s) _ _ (s .args .q) _ _ _ (at-s2 .s2 .given .1) (at-if1 .if1 .left)
+    (c .before .before .read-step .ensures)
 
 returns-5 : tie.Need-returns-5
 returns-5 c =
-    let args = c .before .before .before .args in
-    scan-over (whole (c .before .before .before)) _ (args .q) (c .enum-told2 .given .1)
+    let s = c .before .before .before in
+    scan-over (whole s) _ (s .args .q) (c .enum-told2 .given .1)
 
 pub scan-step-spec : {M : Type 1} → statement M
 scan-step-spec =

@@ -39,14 +39,14 @@ right-words-requires c κs = search needs
 
 returns : tie.Need-returns
 returns c =
-    start-sizes (whole (c .before .before .before)) _ _ _
-    (sized (c .before) (not-true (c .before .right-words .result) (c .if1 .taken)))
+    let s = c .before .before .before in
+    start-sizes (whole s) _ _ _ (sized (c .before) (not-true (c .before .right-words .result) (c .if1 .taken)))
 
 returns-2 : tie.Need-returns-2
 returns-2 c =
-    start-lane (whole (c .before .before .before .before)) _ _ _
-    (sized (c .before .before) (not-false (c .before .before .right-words .result) (c .before .if1 .left)))
-    (c .if2 .taken)
+    let s = c .before .before .before .before in
+    start-lane (whole s) _ _ _ (sized (c .before .before)
+    (not-false (c .before .before .right-words .result) (c .before .if1 .left))) (c .if2 .taken)
 
 mul-old : tie.Need-mul-old
 mul-old c = search needs
@@ -59,12 +59,13 @@ is-idle-requires c κs = search needs
 
 returns-3 : tie.Need-returns-3
 returns-3 c =
-    let right-words = c .before .before .before .before .before .right-words in
-    let if1 = c .before .before .before .before .if1 in
-    let if2 = c .before .before .before .if2 in
-    start-taken (whole (c .before .before .before .before .before .before .before)) _ _ _
-    (sized (c .before .before .before .before .before) (not-false (right-words .result) (if1 .left)))
-    (if2 .left) (sym (c .before .is-idle .ensures) ∙ not-true (c .before .is-idle .result) (c .if3 .taken))
+    let at-if2 = c .before .before .before in
+    let at-if1 = at-if2 .before in
+    let at-right-words = at-if1 .before in
+    let s = at-right-words .before .before in
+    start-taken (whole s) _ _ _ (sized at-right-words
+    (not-false (at-right-words .right-words .result) (at-if1 .if1 .left))) (at-if2 .if2 .left)
+    (sym (c .before .is-idle .ensures) ∙ not-true (c .before .is-idle .result) (c .if3 .taken))
 
 check-corners-requires : tie.Need-check-corners-requires
 check-corners-requires c κs = search needs
@@ -74,15 +75,15 @@ enum-told c = search needs
 
 returns-4 : tie.Need-returns-4
 returns-4 c =
-    let right-words = c .before .before .before .before .before .before .before .before .right-words in
-    let if1 = c .before .before .before .before .before .before .before .if1 in
-    let if2 = c .before .before .before .before .before .before .if2 in
-    let is-idle = c .before .before .before .before .is-idle in
-    let if3 = c .before .before .before .if3 in
-    start-off (whole (c .before .before .before .before .before .before .before .before .before .before)) _ _ _
-    (sized (c .before .before .before .before .before .before .before .before)
-    (not-false (right-words .result) (if1 .left))) (if2 .left)
-    (sym (is-idle .ensures) ∙ not-false (is-idle .result) (if3 .left))
+    let at-if3 = c .before .before .before in
+    let at-is-idle = at-if3 .before in
+    let at-if2 = at-is-idle .before .before in
+    let at-if1 = at-if2 .before in
+    let at-right-words = at-if1 .before in
+    let s = at-right-words .before .before in
+    start-off (whole s) _ _ _ (sized at-right-words (not-false (at-right-words .right-words .result)
+    (at-if1 .if1 .left))) (at-if2 .if2 .left) (sym (at-is-idle .is-idle .ensures) ∙ not-false
+    (at-is-idle .is-idle .result) (at-if3 .if3 .left))
     (corners-off _ (c .before .before .check-corners .ensures) (c .enum-told .given .1))
 
 enum-told-2 : tie.Need-enum-told-2
@@ -90,15 +91,15 @@ enum-told-2 c = search needs
 
 returns-5 : tie.Need-returns-5
 returns-5 c =
-    let right-words = c .before .before .before .before .before .before .before .before .right-words in
-    let if1 = c .before .before .before .before .before .before .before .if1 in
-    let if2 = c .before .before .before .before .before .before .if2 in
-    let is-idle = c .before .before .before .before .is-idle in
-    let if3 = c .before .before .before .if3 in
-    start-crossed (whole (c .before .before .before .before .before .before .before .before .before .before)) _ _ _
-    (sized (c .before .before .before .before .before .before .before .before)
-    (not-false (right-words .result) (if1 .left))) (if2 .left)
-    (sym (is-idle .ensures) ∙ not-false (is-idle .result) (if3 .left))
+    let at-if3 = c .before .before .before in
+    let at-is-idle = at-if3 .before in
+    let at-if2 = at-is-idle .before .before in
+    let at-if1 = at-if2 .before in
+    let at-right-words = at-if1 .before in
+    let s = at-right-words .before .before in
+    start-crossed (whole s) _ _ _ (sized at-right-words
+    (not-false (at-right-words .right-words .result) (at-if1 .if1 .left))) (at-if2 .if2 .left)
+    (sym (at-is-idle .is-idle .ensures) ∙ not-false (at-is-idle .is-idle .result) (at-if3 .if3 .left))
     (corners-crossed _ (c .before .before .check-corners .ensures) (c .enum-told2 .given .1))
 
 enum-told-3 : tie.Need-enum-told-3
@@ -106,29 +107,25 @@ enum-told-3 c = search needs
 
 slice-read-clock : tie.Need-slice-read-clock
 slice-read-clock c =
-    let right-words = c .before .before .before .before .before .before .before .before .before .right-words in
-    let if1 = c .before .before .before .before .before .before .before .before .if1 in
-    omega (
-      arith,
-      (lent (c .before .before .before .before .before .before .before .before .before)
-          (not-false (right-words .result) (if1 .left))) .0,
-    )
+    let at-if1 = c .before .before .before .before .before .before .before .before in
+    let at-right-words = at-if1 .before in
+    omega (arith, (lent at-right-words (not-false (at-right-words .right-words .result) (at-if1 .if1 .left))) .0)
 
 returns-6 : tie.Need-returns-6
 unfolding grid
 returns-6 c =
-    let right-words = c .before .before .before .before .before .before .before .before .before .before .right-words in
-    let if1 = c .before .before .before .before .before .before .before .before .before .if1 in
-    let if2 = c .before .before .before .before .before .before .before .before .if2 in
-    let is-idle = c .before .before .before .before .before .before .is-idle in
-    let if3 = c .before .before .before .before .before .if3 in
-    let check-corners = c .before .before .before .before .check-corners in
-    start-spent (whole
-    (c .before .before .before .before .before .before .before .before .before .before .before .before)) _ _ _
-    (sized (c .before .before .before .before .before .before .before .before .before .before)
-    (not-false (right-words .result) (if1 .left))) (if2 .left)
-    (sym (is-idle .ensures) ∙ not-false (is-idle .result) (if3 .left))
-    (corners-accepted _ (check-corners .ensures) (c .before .before .enum-told3 .given .1)) (c .if4 .taken)
+    let at-check-corners = c .before .before .before .before in
+    let at-if3 = at-check-corners .before in
+    let at-is-idle = at-if3 .before in
+    let at-if2 = at-is-idle .before .before in
+    let at-if1 = at-if2 .before in
+    let at-right-words = at-if1 .before in
+    let s = at-right-words .before .before in
+    start-spent (whole s) _ _ _ (sized at-right-words
+    (not-false (at-right-words .right-words .result) (at-if1 .if1 .left))) (at-if2 .if2 .left)
+    (sym (at-is-idle .is-idle .ensures) ∙ not-false (at-is-idle .is-idle .result) (at-if3 .if3 .left))
+    (corners-accepted _ (at-check-corners .check-corners .ensures) (c .before .before .enum-told3 .given .1))
+    (c .if4 .taken)
 
 add-stamp : tie.Need-add-stamp
 add-stamp c = search needs
@@ -144,13 +141,9 @@ array-set-from-after c = search needs
 
 slice-write-words : tie.Need-slice-write-words
 slice-write-words c =
-    let right-words = c .before .before .before .before .before .before .before .before .before .before .before .right-words in
-    let if1 = c .before .before .before .before .before .before .before .before .before .before .if1 in
-    omega (
-      arith,
-      (lent (c .before .before .before .before .before .before .before .before .before .before .before)
-          (not-false (right-words .result) (if1 .left))) .0,
-    )
+    let at-if1 = c .before .before .before .before .before .before .before .before .before .before in
+    let at-right-words = at-if1 .before in
+    omega (arith, (lent at-right-words (not-false (at-right-words .right-words .result) (at-if1 .if1 .left))) .0)
 
 same-length : tie.Need-same-length
 same-length c = search needs
@@ -158,23 +151,21 @@ same-length c = search needs
 returns-7 : tie.Need-returns-7
 unfolding grid
 returns-7 c =
-    let s = c .before .before .before .before .before .before .before .before .before .before .before .before .before in
-    let right-words = c .before .before .before .before .before .before .before .before .before .before .before .right-words in
-    let if1 = c .before .before .before .before .before .before .before .before .before .before .if1 in
-    let if2 = c .before .before .before .before .before .before .before .before .before .if2 in
-    let is-idle = c .before .before .before .before .before .before .before .is-idle in
-    let if3 = c .before .before .before .before .before .before .if3 in
-    let check-corners = c .before .before .before .before .before .check-corners in
-    let enum-told3 = c .before .before .before .enum-told3 in
-    start-done (whole
-    (c .before .before .before .before .before .before .before .before .before .before .before .before .before))
-    _ _ _ (sized (c .before .before .before .before .before .before .before .before .before .before .before)
-    (not-false (right-words .result) (if1 .left))) (if2 .left)
-    (sym (is-idle .ensures) ∙ not-false (is-idle .result) (if3 .left))
-    (corners-accepted _ (check-corners .ensures) (enum-told3 .given .1)) (c .before .if4 .left) _
-    (c .first-cell .ensures) ∙ as-tables 0 _ (sym (set-clock (now (s .args .words)) (now (s .args .times))
-    ((lent (c .before .before .before .before .before .before .before .before .before .before .before)
-    (not-false (right-words .result) (if1 .left))) .0) _))
+    let at-enum-told3 = c .before .before .before in
+    let at-check-corners = at-enum-told3 .before .before in
+    let at-if3 = at-check-corners .before in
+    let at-is-idle = at-if3 .before in
+    let at-if2 = at-is-idle .before .before in
+    let at-if1 = at-if2 .before in
+    let at-right-words = at-if1 .before in
+    let s = at-right-words .before .before in
+    start-done (whole s) _ _ _ (sized at-right-words (not-false (at-right-words .right-words .result)
+    (at-if1 .if1 .left))) (at-if2 .if2 .left) (sym (at-is-idle .is-idle .ensures) ∙ not-false
+    (at-is-idle .is-idle .result) (at-if3 .if3 .left))
+    (corners-accepted _ (at-check-corners .check-corners .ensures) (at-enum-told3 .enum-told3 .given .1))
+    (c .before .if4 .left) _ (c .first-cell .ensures) ∙ as-tables 0 _
+    (sym (set-clock (now (s .args .words)) (now (s .args .times))
+    ((lent at-right-words (not-false (at-right-words .right-words .result) (at-if1 .if1 .left))) .0) _))
 
 pub query-start-spec : {M : Type 1} → statement M
 query-start-spec =

@@ -38,14 +38,14 @@ right-words-requires c κs = search needs
 
 returns : tie.Need-returns
 returns c =
-    step-sizes (whole (c .before .before .before)) _ _ (sized (c .before)
-    (not-true (c .before .right-words .result) (c .if1 .taken)))
+    let s = c .before .before .before in
+    step-sizes (whole s) _ _ (sized (c .before) (not-true (c .before .right-words .result) (c .if1 .taken)))
 
 returns-2 : tie.Need-returns-2
 returns-2 c =
-    step-lane (whole (c .before .before .before .before)) _ _
-    (sized (c .before .before) (not-false (c .before .before .right-words .result) (c .before .if1 .left)))
-    (c .if2 .taken)
+    let s = c .before .before .before .before in
+    step-lane (whole s) _ _ (sized (c .before .before)
+    (not-false (c .before .before .right-words .result) (c .before .if1 .left))) (c .if2 .taken)
 
 mul-q : tie.Need-mul-q
 mul-q c = search needs
@@ -58,38 +58,36 @@ is-idle-requires c κs = search needs
 
 returns-3 : tie.Need-returns-3
 returns-3 c =
-    let right-words = c .before .before .before .before .before .right-words in
-    let if1 = c .before .before .before .before .if1 in
-    let if2 = c .before .before .before .if2 in
-    step-idle (whole (c .before .before .before .before .before .before .before)) _ _
-    (sized (c .before .before .before .before .before) (not-false (right-words .result) (if1 .left)))
-    (if2 .left) (sym (c .before .is-idle .ensures) ∙ c .if3 .taken)
+    let at-if2 = c .before .before .before in
+    let at-if1 = at-if2 .before in
+    let at-right-words = at-if1 .before in
+    let s = at-right-words .before .before in
+    step-idle (whole s) _ _ (sized at-right-words (not-false (at-right-words .right-words .result)
+    (at-if1 .if1 .left))) (at-if2 .if2 .left) (sym (c .before .is-idle .ensures) ∙ c .if3 .taken)
 
 is-finished-requires : tie.Need-is-finished-requires
 is-finished-requires c κs = search needs
 
 returns-4 : tie.Need-returns-4
 returns-4 c =
-    let right-words = c .before .before .before .before .before .before .before .right-words in
-    let if1 = c .before .before .before .before .before .before .if1 in
-    let if2 = c .before .before .before .before .before .if2 in
-    let is-idle = c .before .before .before .is-idle in
-    step-finished (whole (c .before .before .before .before .before .before .before .before .before)) _ _
-    (sized (c .before .before .before .before .before .before .before)
-    (not-false (right-words .result) (if1 .left))) (if2 .left)
-    (sym (is-idle .ensures) ∙ c .before .before .if3 .left)
+    let at-is-idle = c .before .before .before in
+    let at-if2 = at-is-idle .before .before in
+    let at-if1 = at-if2 .before in
+    let at-right-words = at-if1 .before in
+    let s = at-right-words .before .before in
+    step-finished (whole s) _ _ (sized at-right-words
+    (not-false (at-right-words .right-words .result) (at-if1 .if1 .left))) (at-if2 .if2 .left)
+    (sym (at-is-idle .is-idle .ensures) ∙ c .before .before .if3 .left)
     (sym (c .before .is-finished .ensures) ∙ c .if4 .taken)
 
 scan-step-requires : tie.Need-scan-step-requires
 scan-step-requires c κs =
-    let right-words = c .before .before .before .before .before .before .before .before .right-words in
-    let if1 = c .before .before .before .before .before .before .before .if1 in
-    let if2 = c .before .before .before .before .before .before .if2 in (
-      (lent (c .before .before .before .before .before .before .before .before)
-          (not-false (right-words .result) (if1 .left))) .0,
-      (lent (c .before .before .before .before .before .before .before .before)
-          (not-false (right-words .result) (if1 .left))) .1,
-      if2 .left,
+    let at-if2 = c .before .before .before .before .before .before in
+    let at-if1 = at-if2 .before in
+    let at-right-words = at-if1 .before in (
+      (lent at-right-words (not-false (at-right-words .right-words .result) (at-if1 .if1 .left))) .0,
+      (lent at-right-words (not-false (at-right-words .right-words .result) (at-if1 .if1 .left))) .1,
+      at-if2 .if2 .left,
     )
 
 end-step-requires : tie.Need-end-step-requires
@@ -100,16 +98,19 @@ same-length c = search needs
 
 returns-5 : tie.Need-returns-5
 returns-5 c =
-    let right-words = c .before .before .before .before .before .before .before .before .before .before .before .before .right-words in
-    let if1 = c .before .before .before .before .before .before .before .before .before .before .before .if1 in
-    let if2 = c .before .before .before .before .before .before .before .before .before .before .if2 in
-    let is-idle = c .before .before .before .before .before .before .before .before .is-idle in
-    let if3 = c .before .before .before .before .before .before .before .if3 in
-    let is-finished = c .before .before .before .before .before .before .is-finished in
-    let if4 = c .before .before .before .before .before .if4 in
-    let scan-step = c .before .before .before .scan-step in
-    step-scan (whole
-    (c .before .before .before .before .before .before .before .before .before .before .before .before .before .before)) _ _ (sized (c .before .before .before .before .before .before .before .before .before .before .before .before) (not-false (right-words .result) (if1 .left))) (if2 .left) (sym (is-idle .ensures) ∙ if3 .left) (sym (is-finished .ensures) ∙ if4 .left) (scan-step .result) _ _ _ (scan-step .ensures) (c .end-step .ensures .0) (c .end-step .ensures .1)
+    let at-scan-step = c .before .before .before in
+    let at-if4 = at-scan-step .before .before in
+    let at-is-finished = at-if4 .before in
+    let at-if3 = at-is-finished .before in
+    let at-is-idle = at-if3 .before in
+    let at-if2 = at-is-idle .before .before in
+    let at-if1 = at-if2 .before in
+    let at-right-words = at-if1 .before in
+    let s = at-right-words .before .before in
+    step-scan (whole s) _ _ (sized at-right-words (not-false (at-right-words .right-words .result)
+    (at-if1 .if1 .left))) (at-if2 .if2 .left) (sym (at-is-idle .is-idle .ensures) ∙ at-if3 .if3 .left)
+    (sym (at-is-finished .is-finished .ensures) ∙ at-if4 .if4 .left) (at-scan-step .scan-step .result) _ _ _
+    (at-scan-step .scan-step .ensures) (c .end-step .ensures .0) (c .end-step .ensures .1)
 
 pub query-step-spec : {M : Type 1} → statement M
 query-step-spec =

@@ -21,13 +21,15 @@ use Rattle.readers.proofs.add_reader.Reads as add-reader-reads
 
 returns : tie.Need-returns
 unfolding enterFree counted need pick andThen turnTells turnLeaves grid
-returns c ts = stays (now (c .before .before .before .args .words)) ts _ _ _ refl (rw (le-ltb _ _ (c .if1 .taken)))
+returns c ts =
+    let s = c .before .before .before in
+    stays (now (s .args .words)) ts _ _ _ refl (rw (le-ltb _ _ (c .if1 .taken)))
 
 returns-2 : tie.Need-returns-2
 unfolding enterFree counted need pick andThen turnTells turnLeaves grid
 returns-2 c ts =
-    let args = c .before .before .before .before .args in
-    stays (now (args .words)) ts _ _ _ refl (rw (lt-ltb _ _ (c .before .if1 .left), le-ltb _ _ (c .if2 .taken)))
+    let s = c .before .before .before .before in
+    stays (now (s .args .words)) ts _ _ _ refl (rw (lt-ltb _ _ (c .before .if1 .left), le-ltb _ _ (c .if2 .taken)))
 
 add-bucket : tie.Need-add-bucket
 add-bucket c = search needs
@@ -50,18 +52,18 @@ enum-told c = search needs
 returns-3 : tie.Need-returns-3
 unfolding enterFree counted need pick andThen turnTells turnLeaves grid
 returns-3 c ts =
-    let s = c .before .before .before .before .before .before .before .before .before in
-    let if1 = c .before .before .before .before .before .before .if1 in
-    let if2 = c .before .before .before .before .before .if2 in
-    let if3 = c .before .before .before .if3 in
+    let at-if3 = c .before .before .before in
+    let at-if2 = at-if3 .before .before in
+    let at-if1 = at-if2 .before in
+    let s = at-if1 .before .before .before in
     stays (now (s .args .words)) ts _ _ _ refl (rw (
-      lt-ltb _ _ (if1 .left),
-      lt-ltb _ _ (if2 .left),
-      part-at
-          (now (s .args .words)) FIRST 256 (s .args .cell) 0 (if2 .left),
-      eq-eqb _ _ (if3 .taken),
-      said-corrupt
-          (afterCell _ _) (c .before .before .after-cell .ensures ∙ ap onwardSays (c .enum-told .given .1)),
+      lt-ltb _ _ (at-if1 .if1 .left),
+      lt-ltb _ _ (at-if2 .if2 .left),
+      part-at (now (s .args .words)) FIRST 256 (s .args .cell) 0 (at-if2 .if2 .left),
+      eq-eqb _ _
+          (at-if3 .if3 .taken),
+      said-corrupt (afterCell _ _)
+          (c .before .before .after-cell .ensures ∙ ap onwardSays (c .enum-told .given .1)),
     ))
 
 one-more-requires : tie.Need-one-more-requires
@@ -70,19 +72,19 @@ one-more-requires c κs = search needs
 returns-4 : tie.Need-returns-4
 unfolding enterFree counted need pick andThen turnTells turnLeaves grid
 returns-4 c ts =
-    let s = c .before .before .before .before .before .before .before .before .before .before .before in
-    let if1 = c .before .before .before .before .before .before .before .before .if1 in
-    let if2 = c .before .before .before .before .before .before .before .if2 in
-    let if3 = c .before .before .before .before .before .if3 in
-    let after-cell = c .before .before .before .before .after-cell in
+    let at-after-cell = c .before .before .before .before in
+    let at-if3 = at-after-cell .before in
+    let at-if2 = at-if3 .before .before in
+    let at-if1 = at-if2 .before in
+    let s = at-if1 .before .before .before in
     stays (now (s .args .words)) ts _ _ _ refl (rw (
-      lt-ltb _ _ (if1 .left),
-      lt-ltb _ _ (if2 .left),
-      part-at
-          (now (s .args .words)) FIRST 256 (s .args .cell) 0 (if2 .left),
-      eq-eqb _ _ (if3 .taken),
-      said-done
-          (afterCell _ _) (after-cell .ensures ∙ ap onwardSays (c .before .before .onward .given .1)),
+      lt-ltb _ _ (at-if1 .if1 .left),
+      lt-ltb _ _ (at-if2 .if2 .left),
+      part-at (now (s .args .words)) FIRST 256 (s .args .cell) 0 (at-if2 .if2 .left),
+      eq-eqb _ _
+          (at-if3 .if3 .taken),
+      said-done (afterCell _ _) (at-after-cell .after-cell .ensures ∙ ap onwardSays
+          (c .before .before .onward .given .1)),
       c .one-more .ensures,
     ))
 
@@ -101,22 +103,23 @@ same-length c = search needs
 returns-5 : tie.Need-returns-5
 unfolding enterFree counted need pick andThen turnTells turnLeaves grid
 returns-5 c ts =
-    let s = c .before .before .before .before .before .before .before .before .before .before .before .before in
-    let if1 = c .before .before .before .before .before .before .before .before .before .if1 in
-    let if2 = c .before .before .before .before .before .before .before .before .if2 in
-    let if3 = c .before .before .before .before .before .before .if3 in
-    let add-reader = c .before .before .before .before .add-reader in
-    stays (now (s .args .words)) ts _ _ _ ((stood-corrupt (now (s .args .words)) (add-reader .last .0)
-    (addReader (countIn (now (s .args .words))) (readersIn (now (s .args .words))) _) (add-reader .ensures)
-    (c .enum-told2 .given .1)) .1) (rw (
-      lt-ltb _ _ (if1 .left),
-      lt-ltb _ _ (if2 .left),
-      part-at
-          (now (s .args .words)) FIRST 256 (s .args .cell) 0 (if2 .left),
-      ne-eqb _ _ (if3 .left),
-      (stood-corrupt (now (s .args .words)) (add-reader .last .0)
-          (addReader (countIn (now (s .args .words))) (readersIn (now (s .args .words))) _) (add-reader .ensures)
-          (c .enum-told2 .given .1)) .0,
+    let at-add-reader = c .before .before .before .before in
+    let at-if3 = at-add-reader .before .before in
+    let at-if2 = at-if3 .before .before in
+    let at-if1 = at-if2 .before in
+    let s = at-if1 .before .before .before in
+    stays (now (s .args .words)) ts _ _ _ ((stood-corrupt (now (s .args .words)) (at-add-reader .add-reader .last .0)
+    (addReader (countIn (now (s .args .words))) (readersIn (now (s .args .words))) _)
+    (at-add-reader .add-reader .ensures) (c .enum-told2 .given .1)) .1)
+    (rw (
+      lt-ltb _ _ (at-if1 .if1 .left),
+      lt-ltb _ _ (at-if2 .if2 .left),
+      part-at (now (s .args .words)) FIRST
+          256 (s .args .cell) 0 (at-if2 .if2 .left),
+      ne-eqb _ _ (at-if3 .if3 .left),
+      (stood-corrupt (now (s .args .words)) (at-add-reader .add-reader .last .0)
+          (addReader (countIn (now (s .args .words))) (readersIn (now (s .args .words))) _)
+          (at-add-reader .add-reader .ensures) (c .enum-told2 .given .1)) .0,
     ))
 
 one-more-requires-2 : tie.Need-one-more-requires-2
@@ -128,24 +131,26 @@ same-length-2 c = search needs
 returns-6 : tie.Need-returns-6
 unfolding enterFree counted need pick andThen turnTells turnLeaves grid
 returns-6 c ts =
-    let s = c .before .before .before .before .before .before .before .before .before .before .before .before .before .before in
-    let if1 = c .before .before .before .before .before .before .before .before .before .before .before .if1 in
-    let if2 = c .before .before .before .before .before .before .before .before .before .before .if2 in
-    let if3 = c .before .before .before .before .before .before .before .before .if3 in
-    let add-reader = c .before .before .before .before .before .before .add-reader in
-    reads-there (now (s .args .words)) ts _ _ (s .pre) (add-reader .last .0) (add-reader .kept .0)
-    ((stood-in (now (s .args .words)) (add-reader .last .0)
-    (addReader (countIn (now (s .args .words))) (readersIn (now (s .args .words))) _) (add-reader .ensures)
-    (s .pre) (add-reader .kept .0) _ (c .before .before .stood .given .1)) .1)
+    let at-add-reader = c .before .before .before .before .before .before in
+    let at-if3 = at-add-reader .before .before in
+    let at-if2 = at-if3 .before .before in
+    let at-if1 = at-if2 .before in
+    let s = at-if1 .before .before .before in
+    reads-there (now (s .args .words)) ts _ _ (s .pre) (at-add-reader .add-reader .last .0)
+    (at-add-reader .add-reader .kept .0) ((stood-in (now (s .args .words))
+    (at-add-reader .add-reader .last .0) (addReader (countIn (now (s .args .words)))
+    (readersIn (now (s .args .words))) _) (at-add-reader .add-reader .ensures) (s .pre)
+    (at-add-reader .add-reader .kept .0) _ (c .before .before .stood .given .1)) .1)
     (rw (
-      lt-ltb _ _ (if1 .left),
-      lt-ltb _ _ (if2 .left),
-      part-at (now (s .args .words)) FIRST 256
-          (s .args .cell) 0 (if2 .left),
-      ne-eqb _ _ (if3 .left),
-      (stood-in (now (s .args .words)) (add-reader .last .0)
-          (addReader (countIn (now (s .args .words))) (readersIn (now (s .args .words))) _) (add-reader .ensures)
-          (s .pre) (add-reader .kept .0) _ (c .before .before .stood .given .1)) .0,
+      lt-ltb _ _ (at-if1 .if1 .left),
+      lt-ltb _ _ (at-if2 .if2 .left),
+      part-at (now (s .args .words)) FIRST
+          256 (s .args .cell) 0 (at-if2 .if2 .left),
+      ne-eqb _ _ (at-if3 .if3 .left),
+      (stood-in (now (s .args .words)) (at-add-reader .add-reader .last .0)
+          (addReader (countIn (now (s .args .words))) (readersIn (now (s .args .words))) _)
+          (at-add-reader .add-reader .ensures) (s .pre) (at-add-reader .add-reader .kept .0) _
+          (c .before .before .stood .given .1)) .0,
       c .one-more2 .ensures,
     ))
 

@@ -22,8 +22,8 @@ is-visited-requires c κs = search needs
 returns : tie.Need-returns
 unfolding enterStep need andThen turnTells turnLeaves grid
 returns c ts =
-    let args = c .before .before .before .args in
-    stays (now (args .words)) ts _ _ _ refl (rw (sym (c .before .is-visited .ensures) ∙ not-true
+    let s = c .before .before .before in
+    stays (now (s .args .words)) ts _ _ _ refl (rw (sym (c .before .is-visited .ensures) ∙ not-true
     (c .before .is-visited .result) (c .if1 .taken)))
 
 sub-look-lock : tie.Need-sub-look-lock
@@ -56,13 +56,14 @@ same-length c = search needs
 returns-2 : tie.Need-returns-2
 unfolding enterStep need andThen turnTells turnLeaves grid
 returns-2 c ts =
-    let args = c .before .before .before .before .before .before .before .before .args in
-    let is-visited = c .before .before .before .before .before .before .is-visited in
-    let if1 = c .before .before .before .before .before .if1 in
-    stays (now (args .words)) ts _ _ _ refl (rw (
-      sym (is-visited .ensures) ∙ not-false (is-visited .result) (if1 .left),
-      told-corrupt nothing (look _ _) (c .before .before .look-lock .ensures ∙ ap attemptSays
-          (c .enum-told .given .1)),
+    let at-if1 = c .before .before .before .before .before in
+    let at-is-visited = at-if1 .before in
+    let s = at-is-visited .before .before in
+    stays (now (s .args .words)) ts _ _ _ refl (rw (
+      sym (at-is-visited .is-visited .ensures) ∙ not-false
+          (at-is-visited .is-visited .result) (at-if1 .if1 .left),
+      told-corrupt nothing (look _ _)
+          (c .before .before .look-lock .ensures ∙ ap attemptSays (c .enum-told .given .1)),
     ))
 
 same-length-2 : tie.Need-same-length-2
@@ -71,13 +72,14 @@ same-length-2 c = search needs
 returns-3 : tie.Need-returns-3
 unfolding enterStep need andThen turnTells turnLeaves grid
 returns-3 c ts =
-    let args = c .before .before .before .before .before .before .before .before .args in
-    let is-visited = c .before .before .before .before .before .before .is-visited in
-    let if1 = c .before .before .before .before .before .if1 in
-    stays (now (args .words)) ts _ _ _ refl (rw (
-      sym (is-visited .ensures) ∙ not-false (is-visited .result) (if1 .left),
-      told-blocked nothing (look _ _) (c .before .before .look-lock .ensures ∙ ap attemptSays
-          (c .enum-told2 .given .1)),
+    let at-if1 = c .before .before .before .before .before in
+    let at-is-visited = at-if1 .before in
+    let s = at-is-visited .before .before in
+    stays (now (s .args .words)) ts _ _ _ refl (rw (
+      sym (at-is-visited .is-visited .ensures) ∙ not-false
+          (at-is-visited .is-visited .result) (at-if1 .if1 .left),
+      told-blocked nothing (look _ _)
+          (c .before .before .look-lock .ensures ∙ ap attemptSays (c .enum-told2 .given .1)),
     ))
 
 same-length-3 : tie.Need-same-length-3
@@ -86,14 +88,14 @@ same-length-3 c = search needs
 returns-4 : tie.Need-returns-4
 unfolding enterStep need andThen grid
 returns-4 c ts =
-    let is-visited = c .before .before .before .before .before .before .before .before .before .before .is-visited in
-    let if1 = c .before .before .before .before .before .before .before .before .before .if1 in
-    let look-lock = c .before .before .before .before .before .before .look-lock in
-    let enum-told3 = c .before .before .before .before .enum-told3 in
+    let at-enum-told3 = c .before .before .before .before in
+    let at-look-lock = at-enum-told3 .before .before in
+    let at-if1 = at-look-lock .before .before .before in
+    let at-is-visited = at-if1 .before in
     rw (
-      sym (is-visited .ensures) ∙ not-false (is-visited .result) (if1 .left),
-      told-done nothing (look _ _)
-          (look-lock .ensures ∙ ap attemptSays (enum-told3 .given .1)) .1,
+      sym (at-is-visited .is-visited .ensures) ∙ not-false (at-is-visited .is-visited .result) (at-if1 .if1 .left),
+      told-done nothing (look _ _) (at-look-lock .look-lock .ensures ∙ ap attemptSays
+          (at-enum-told3 .enum-told3 .given .1)) .1,
     ) (c .before .before .enter-free .ensures ts)
 
 pub enter-step-spec : {M : Type 1} → statement M

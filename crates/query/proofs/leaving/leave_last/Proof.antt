@@ -49,12 +49,13 @@ same-length c = search needs
 returns-2 : tie.Need-returns-2
 unfolding leaveLast andThen turnTells turnLeaves grid
 returns-2 c ts =
-    let s = c .before .before .before .before .before .before .before .before .before .before .before in
-    let take-reader = c .before .before .before .before .take-reader in
-    stays (now (s .args .words)) ts _ _ _ ((took-corrupt (now (s .args .words)) (take-reader .last .0)
-    (takeReader (readersIn (now (s .args .words))) _) (take-reader .ensures) (c .enum-told3 .given .1)) .1)
-    (rw ((took-corrupt (now (s .args .words)) (take-reader .last .0)
-    (takeReader (readersIn (now (s .args .words))) _) (take-reader .ensures) (c .enum-told3 .given .1)) .0))
+    let at-take-reader = c .before .before .before .before in
+    let s = at-take-reader .before .before .before .before .before .before .before in
+    stays (now (s .args .words)) ts _ _ _ ((took-corrupt (now (s .args .words)) (at-take-reader .take-reader .last .0)
+    (takeReader (readersIn (now (s .args .words))) _) (at-take-reader .take-reader .ensures)
+    (c .enum-told3 .given .1)) .1) (rw ((took-corrupt (now (s .args .words))
+    (at-take-reader .take-reader .last .0) (takeReader (readersIn (now (s .args .words))) _)
+    (at-take-reader .take-reader .ensures) (c .enum-told3 .given .1)) .0))
 
 one-more-requires : tie.Need-one-more-requires
 one-more-requires c κs = search needs
@@ -65,19 +66,21 @@ same-length-2 c = search needs
 returns-3 : tie.Need-returns-3
 unfolding leaveLast andThen turnTells turnLeaves grid
 returns-3 c ts =
-    let s = c .before .before .before .before .before .before .before .before .before .before .before .before in
-    let after-cell = c .before .before .before .before .before .before .before .before .before .before .after-cell in
-    let onward = c .before .before .before .before .before .before .before .before .onward in
-    let take-reader = c .before .before .before .before .before .take-reader in
-    reads-there (now (s .args .words)) ts _ _ (s .pre .0) (take-reader .last .0) (take-reader .kept .0)
-    ((took-done (now (s .args .words)) (take-reader .last .0) (takeReader (readersIn (now (s .args .words))) _)
-    (take-reader .ensures) (s .pre .0) (take-reader .kept .0) (c .before .enum-told2 .given .1)) .1)
-    (rw (
-      (took-done (now (s .args .words)) (take-reader .last .0)
-          (takeReader (readersIn (now (s .args .words))) _) (take-reader .ensures) (s .pre .0) (take-reader .kept .0)
+    let at-take-reader = c .before .before .before .before .before in
+    let at-onward = at-take-reader .before .before .before in
+    let at-after-cell = at-onward .before .before in
+    let s = at-after-cell .before .before in
+    reads-there (now (s .args .words)) ts _ _ (s .pre .0) (at-take-reader .take-reader .last .0)
+    (at-take-reader .take-reader .kept .0) ((took-done (now (s .args .words))
+    (at-take-reader .take-reader .last .0) (takeReader (readersIn (now (s .args .words))) _)
+    (at-take-reader .take-reader .ensures) (s .pre .0) (at-take-reader .take-reader .kept .0)
+    (c .before .enum-told2 .given .1)) .1) (rw (
+      (took-done (now (s .args .words))
+          (at-take-reader .take-reader .last .0) (takeReader (readersIn (now (s .args .words))) _)
+          (at-take-reader .take-reader .ensures) (s .pre .0) (at-take-reader .take-reader .kept .0)
           (c .before .enum-told2 .given .1)) .0,
       said-done (afterCell _ _)
-          (after-cell .ensures ∙ ap onwardSays (onward .given .1)),
+          (at-after-cell .after-cell .ensures ∙ ap onwardSays (at-onward .onward .given .1)),
       c .one-more .ensures,
     ))
 

@@ -21,13 +21,15 @@ use Rattle.readers.proofs.leave_for.Reads as leave-for-reads
 
 returns : tie.Need-returns
 unfolding leaveStep counted need pick andThen turnTells turnLeaves grid
-returns c ts = stays (now (c .before .before .before .args .words)) ts _ _ _ refl (rw (le-ltb _ _ (c .if1 .taken)))
+returns c ts =
+    let s = c .before .before .before in
+    stays (now (s .args .words)) ts _ _ _ refl (rw (le-ltb _ _ (c .if1 .taken)))
 
 returns-2 : tie.Need-returns-2
 unfolding leaveStep counted need pick andThen turnTells turnLeaves grid
 returns-2 c ts =
-    let args = c .before .before .before .before .args in
-    stays (now (args .words)) ts _ _ _ refl (rw (lt-ltb _ _ (c .before .if1 .left), le-ltb _ _ (c .if2 .taken)))
+    let s = c .before .before .before .before in
+    stays (now (s .args .words)) ts _ _ _ refl (rw (lt-ltb _ _ (c .before .if1 .left), le-ltb _ _ (c .if2 .taken)))
 
 add-below : tie.Need-add-below
 add-below c = search needs
@@ -47,17 +49,18 @@ same-length c = search needs
 returns-3 : tie.Need-returns-3
 unfolding leaveStep counted need pick grid
 returns-3 c ts =
-    let s = c .before .before .before .before .before .before .before .before .before .before in
-    let if1 = c .before .before .before .before .before .before .before .if1 in
-    let if2 = c .before .before .before .before .before .before .if2 in
-    let if3 = c .before .before .before .before .if3 in
+    let at-if3 = c .before .before .before .before in
+    let at-if2 = at-if3 .before .before in
+    let at-if1 = at-if2 .before in
+    let s = at-if1 .before .before .before in
     rw (
-      lt-ltb _ _ (if1 .left),
-      lt-ltb _ _ (if2 .left),
-      part-at (now (s .args .words)) NEXT 512 (s .args .bucket) 0
-          (if2 .left),
-      eq-eqb _ _ (if3 .taken),
-    ) (c .before .before .leave-last .ensures ts)
+      lt-ltb _ _ (at-if1 .if1 .left),
+      lt-ltb _ _ (at-if2 .if2 .left),
+      part-at (now (s .args .words)) NEXT 512
+          (s .args .bucket) 0 (at-if2 .if2 .left),
+      eq-eqb _ _ (at-if3 .if3 .taken),
+    )
+    (c .before .before .leave-last .ensures ts)
 
 leave-for-requires : tie.Need-leave-for-requires
 leave-for-requires c κs = search needs
@@ -74,22 +77,23 @@ same-length-2 c = search needs
 returns-4 : tie.Need-returns-4
 unfolding leaveStep counted need pick andThen turnTells turnLeaves grid
 returns-4 c ts =
-    let s = c .before .before .before .before .before .before .before .before .before .before .before .before in
-    let if1 = c .before .before .before .before .before .before .before .before .before .if1 in
-    let if2 = c .before .before .before .before .before .before .before .before .if2 in
-    let if3 = c .before .before .before .before .before .before .if3 in
-    let leave-for = c .before .before .before .before .leave-for in
-    stays (now (s .args .words)) ts _ _ _ ((stood-corrupt (now (s .args .words)) (leave-for .last .0)
-    (leaveFor (countIn (now (s .args .words))) (readersIn (now (s .args .words))) _ _) (leave-for .ensures)
-    (c .enum-told .given .1)) .1) (rw (
-      lt-ltb _ _ (if1 .left),
-      lt-ltb _ _ (if2 .left),
-      part-at
-          (now (s .args .words)) NEXT 512 (s .args .bucket) 0 (if2 .left),
-      ne-eqb _ _ (if3 .left),
-      (stood-corrupt (now (s .args .words)) (leave-for .last .0)
-          (leaveFor (countIn (now (s .args .words))) (readersIn (now (s .args .words))) _ _) (leave-for .ensures)
-          (c .enum-told .given .1)) .0,
+    let at-leave-for = c .before .before .before .before in
+    let at-if3 = at-leave-for .before .before in
+    let at-if2 = at-if3 .before .before in
+    let at-if1 = at-if2 .before in
+    let s = at-if1 .before .before .before in
+    stays (now (s .args .words)) ts _ _ _ ((stood-corrupt (now (s .args .words)) (at-leave-for .leave-for .last .0)
+    (leaveFor (countIn (now (s .args .words))) (readersIn (now (s .args .words))) _ _)
+    (at-leave-for .leave-for .ensures) (c .enum-told .given .1)) .1)
+    (rw (
+      lt-ltb _ _ (at-if1 .if1 .left),
+      lt-ltb _ _ (at-if2 .if2 .left),
+      part-at (now (s .args .words)) NEXT
+          512 (s .args .bucket) 0 (at-if2 .if2 .left),
+      ne-eqb _ _ (at-if3 .if3 .left),
+      (stood-corrupt (now (s .args .words)) (at-leave-for .leave-for .last .0)
+          (leaveFor (countIn (now (s .args .words))) (readersIn (now (s .args .words))) _ _)
+          (at-leave-for .leave-for .ensures) (c .enum-told .given .1)) .0,
     ))
 
 one-more-requires : tie.Need-one-more-requires
@@ -101,24 +105,25 @@ same-length-3 c = search needs
 returns-5 : tie.Need-returns-5
 unfolding leaveStep counted need pick andThen turnTells turnLeaves grid
 returns-5 c ts =
-    let s = c .before .before .before .before .before .before .before .before .before .before .before .before .before .before in
-    let if1 = c .before .before .before .before .before .before .before .before .before .before .before .if1 in
-    let if2 = c .before .before .before .before .before .before .before .before .before .before .if2 in
-    let if3 = c .before .before .before .before .before .before .before .before .if3 in
-    let leave-for = c .before .before .before .before .before .before .leave-for in
-    reads-there (now (s .args .words)) ts _ _ (s .pre) (leave-for .last .0) (leave-for .kept .0)
-    ((stood-in (now (s .args .words)) (leave-for .last .0)
-    (leaveFor (countIn (now (s .args .words))) (readersIn (now (s .args .words))) _ _) (leave-for .ensures)
-    (s .pre) (leave-for .kept .0) _ (c .before .before .stood .given .1)) .1)
-    (rw (
-      lt-ltb _ _ (if1 .left),
-      lt-ltb _ _ (if2 .left),
-      part-at (now (s .args .words)) NEXT 512
-          (s .args .bucket) 0 (if2 .left),
-      ne-eqb _ _ (if3 .left),
-      (stood-in (now (s .args .words)) (leave-for .last .0)
-          (leaveFor (countIn (now (s .args .words))) (readersIn (now (s .args .words))) _ _) (leave-for .ensures)
-          (s .pre) (leave-for .kept .0) _ (c .before .before .stood .given .1)) .0,
+    let at-leave-for = c .before .before .before .before .before .before in
+    let at-if3 = at-leave-for .before .before in
+    let at-if2 = at-if3 .before .before in
+    let at-if1 = at-if2 .before in
+    let s = at-if1 .before .before .before in
+    reads-there (now (s .args .words)) ts _ _ (s .pre) (at-leave-for .leave-for .last .0)
+    (at-leave-for .leave-for .kept .0) ((stood-in (now (s .args .words)) (at-leave-for .leave-for .last .0)
+    (leaveFor (countIn (now (s .args .words))) (readersIn (now (s .args .words))) _ _)
+    (at-leave-for .leave-for .ensures) (s .pre) (at-leave-for .leave-for .kept .0) _
+    (c .before .before .stood .given .1)) .1) (rw (
+      lt-ltb _ _ (at-if1 .if1 .left),
+      lt-ltb _ _
+          (at-if2 .if2 .left),
+      part-at (now (s .args .words)) NEXT 512 (s .args .bucket) 0 (at-if2 .if2 .left),
+      ne-eqb _ _ (at-if3 .if3 .left),
+      (stood-in (now (s .args .words)) (at-leave-for .leave-for .last .0)
+          (leaveFor (countIn (now (s .args .words))) (readersIn (now (s .args .words))) _ _)
+          (at-leave-for .leave-for .ensures) (s .pre) (at-leave-for .leave-for .kept .0) _
+          (c .before .before .stood .given .1)) .0,
       c .one-more .ensures,
     ))
 

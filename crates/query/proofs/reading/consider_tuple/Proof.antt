@@ -24,11 +24,12 @@ can-compare-requires c κs = search needs
 returns-2 : tie.Need-returns-2
 unfolding consider need pick tells leaves
 returns-2 c =
-    let is-inside = c .before .before .before .is-inside in
+    let at-is-inside = c .before .before .before in
     rw (
-      sym (is-inside .ensures) ∙ not-false (is-inside .result) (c .before .before .if1 .left),
-      sym
-          (c .before .can-compare .ensures) ∙ not-true (c .before .can-compare .result) (c .if2 .taken),
+      sym (at-is-inside .is-inside .ensures) ∙ not-false (at-is-inside .is-inside .result)
+          (c .before .before .if1 .left),
+      sym (c .before .can-compare .ensures) ∙ not-true
+          (c .before .can-compare .result) (c .if2 .taken),
     )
 
 is-seen-requires : tie.Need-is-seen-requires
@@ -37,15 +38,16 @@ is-seen-requires c κs = search needs
 returns-3 : tie.Need-returns-3
 unfolding consider need pick tells leaves
 returns-3 c =
-    let is-inside = c .before .before .before .before .before .is-inside in
-    let if1 = c .before .before .before .before .if1 in
-    let can-compare = c .before .before .before .can-compare in
+    let at-can-compare = c .before .before .before in
+    let at-if1 = at-can-compare .before in
+    let at-is-inside = at-if1 .before in
     rw (
-      sym (is-inside .ensures) ∙ not-false (is-inside .result) (if1 .left),
-      sym (can-compare .ensures) ∙ not-false
-          (can-compare .result) (c .before .before .if2 .left),
-      sym (c .before .is-seen .ensures) ∙ not-true
-          (c .before .is-seen .result) (c .if3 .taken),
+      sym (at-is-inside .is-inside .ensures) ∙ not-false (at-is-inside .is-inside .result) (at-if1 .if1 .left),
+      sym
+          (at-can-compare .can-compare .ensures) ∙ not-false (at-can-compare .can-compare .result)
+          (c .before .before .if2 .left),
+      sym (c .before .is-seen .ensures) ∙ not-true (c .before .is-seen .result)
+          (c .if3 .taken),
     )
 
 note-tuple-requires : tie.Need-note-tuple-requires
@@ -57,19 +59,20 @@ same-length c = search needs
 returns-4 : tie.Need-returns-4
 unfolding consider need pick
 returns-4 c =
-    let is-inside = c .before .before .before .before .before .before .before .before .before .is-inside in
-    let if1 = c .before .before .before .before .before .before .before .before .if1 in
-    let can-compare = c .before .before .before .before .before .before .before .can-compare in
-    let if2 = c .before .before .before .before .before .before .if2 in
-    let is-seen = c .before .before .before .before .before .is-seen in
-    let if3 = c .before .before .before .before .if3 in
+    let at-if3 = c .before .before .before .before in
+    let at-is-seen = at-if3 .before in
+    let at-if2 = at-is-seen .before in
+    let at-can-compare = at-if2 .before in
+    let at-if1 = at-can-compare .before in
+    let at-is-inside = at-if1 .before in
     rw (
-      sym (is-inside .ensures) ∙ not-false (is-inside .result) (if1 .left),
-      sym (can-compare .ensures) ∙ not-false
-          (can-compare .result) (if2 .left),
-      sym (is-seen .ensures) ∙ not-false (is-seen .result) (if3 .left),
-    )
-    (c .before .before .note-tuple .ensures)
+      sym (at-is-inside .is-inside .ensures) ∙ not-false (at-is-inside .is-inside .result) (at-if1 .if1 .left),
+      sym
+          (at-can-compare .can-compare .ensures) ∙ not-false (at-can-compare .can-compare .result)
+          (at-if2 .if2 .left),
+      sym (at-is-seen .is-seen .ensures) ∙ not-false (at-is-seen .is-seen .result)
+          (at-if3 .if3 .left),
+    ) (c .before .before .note-tuple .ensures)
 
 pub consider-tuple-spec : {M : Type 1} → statement M
 consider-tuple-spec =

@@ -49,14 +49,14 @@ returns-2 c =
 returns-3 : tie.Need-returns-3
 unfolding readStep counted need andThen turnTells turnLeaves grid
 returns-3 c =
-    let s = c .before .before .before .before .before .before .before .before in
-    let if1 = c .before .before .before .before .before .if1 in
-    let check-corners = c .before .before .before .before .check-corners in
+    let at-check-corners = c .before .before .before .before in
+    let at-if1 = at-check-corners .before in
+    let s = at-if1 .before .before .before in
     keeps (now (s .args .words)) (now (s .args .times)) _ _
     (rw (
-      lt-ltb _ _ (if1 .left),
-      proper-iff _ .0 (check-corners .ensures ∙ ap cornersSays
-          (c .before .before .enum-told .given .1)),
+      lt-ltb _ _ (at-if1 .if1 .left),
+      proper-iff _ .0
+          (at-check-corners .check-corners .ensures ∙ ap cornersSays (c .before .before .enum-told .given .1)),
       eq-eqb _ _ (c .if2 .taken),
     ))
 
@@ -89,19 +89,20 @@ same-length c = search needs
 returns-4 : tie.Need-returns-4
 unfolding readStep counted need andThen turnTells turnLeaves grid
 returns-4 c =
-    let s = c .before .before .before .before .before .before .before .before .before .before .before .before .before .before in
-    let if1 = c .before .before .before .before .before .before .before .before .before .before .before .if1 in
-    let check-corners = c .before .before .before .before .before .before .before .before .before .before .check-corners in
-    let enum-told = c .before .before .before .before .before .before .before .before .enum-told in
-    let if2 = c .before .before .before .before .before .before .if2 in
+    let at-if2 = c .before .before .before .before .before .before in
+    let at-enum-told = at-if2 .before .before in
+    let at-check-corners = at-enum-told .before .before in
+    let at-if1 = at-check-corners .before in
+    let s = at-if1 .before .before .before in
     keeps (now (s .args .words)) (now (s .args .times)) _ _
     (rw (
-      lt-ltb _ _ (if1 .left),
-      proper-iff _ .0 (check-corners .ensures ∙ ap cornersSays
-          (enum-told .given .1)),
-      ne-eqb _ _ (if2 .left),
-      tuple-corrupt (read _ _ _)
-          (c .before .before .read-tuple .ensures) (c .enum-told2 .given .1),
+      lt-ltb _ _ (at-if1 .if1 .left),
+      proper-iff _ .0
+          (at-check-corners .check-corners .ensures ∙ ap cornersSays (at-enum-told .enum-told .given .1)),
+      ne-eqb _
+          _ (at-if2 .if2 .left),
+      tuple-corrupt (read _ _ _) (c .before .before .read-tuple .ensures)
+          (c .enum-told2 .given .1),
     ))
 
 sub-consider-tuple : tie.Need-sub-consider-tuple
@@ -130,27 +131,28 @@ same-length-2 c = search needs
 returns-5 : tie.Need-returns-5
 unfolding readStep counted need andThen turnTells turnLeaves grid
 returns-5 c =
-    let s = c .before .before .before .before .before .before .before .before .before .before .before .before .before .before .before .before .before .before .before .before .before in
-    let if1 = c .before .before .before .before .before .before .before .before .before .before .before .before .before .before .before .before .before .before .if1 in
-    let check-corners = c .before .before .before .before .before .before .before .before .before .before .before .before .before .before .before .before .before .check-corners in
-    let enum-told = c .before .before .before .before .before .before .before .before .before .before .before .before .before .before .before .enum-told in
-    let if2 = c .before .before .before .before .before .before .before .before .before .before .before .before .before .if2 in
-    let read-tuple = c .before .before .before .before .before .before .before .before .before .read-tuple in
-    let read′ = c .before .before .before .before .before .before .before .read in
-    let consider-tuple = c .before .before .before .before .consider-tuple in
-    notes (now (s .args .words)) (now (s .args .times)) _ _ (s .pre .0) (consider-tuple .last .0)
-    (consider-tuple .kept .0 ∙ long (now (s .args .words)) (s .pre .0) HITS HITS-SIZE (omega arith))
-    (rw (
-      lt-ltb _ _ (if1 .left),
-      proper-iff _ .0 (check-corners .ensures ∙ ap cornersSays
-          (enum-told .given .1)),
-      ne-eqb _ _ (if2 .left),
-      tuple-at (read _ _ _) (read-tuple .ensures) _
-          (read′ .given .1),
-      noted-corrupt _ _ (consider _ _ _ _) (consider-tuple .ensures)
-          (c .enum-told3 .given .1) .0,
-      noted-corrupt _ _ (consider _ _ _ _) (consider-tuple .ensures)
-          (c .enum-told3 .given .1) .1,
+    let at-consider-tuple = c .before .before .before .before in
+    let at-read = at-consider-tuple .before .before .before in
+    let at-read-tuple = at-read .before .before in
+    let at-if2 = at-read-tuple .before .before .before .before in
+    let at-enum-told = at-if2 .before .before in
+    let at-check-corners = at-enum-told .before .before in
+    let at-if1 = at-check-corners .before in
+    let s = at-if1 .before .before .before in
+    notes (now (s .args .words)) (now (s .args .times)) _ _ (s .pre .0) (at-consider-tuple .consider-tuple .last .0)
+    (at-consider-tuple .consider-tuple .kept .0 ∙ long (now (s .args .words)) (s .pre .0) HITS HITS-SIZE
+    (omega arith)) (rw (
+      lt-ltb _ _ (at-if1 .if1 .left),
+      proper-iff _ .0
+          (at-check-corners .check-corners .ensures ∙ ap cornersSays (at-enum-told .enum-told .given .1)),
+      ne-eqb _
+          _ (at-if2 .if2 .left),
+      tuple-at (read _ _ _) (at-read-tuple .read-tuple .ensures) _
+          (at-read .read .given .1),
+      noted-corrupt _ _ (consider _ _ _ _)
+          (at-consider-tuple .consider-tuple .ensures) (c .enum-told3 .given .1) .0,
+      noted-corrupt _ _
+          (consider _ _ _ _) (at-consider-tuple .consider-tuple .ensures) (c .enum-told3 .given .1) .1,
     ))
 
 one-more-requires : tie.Need-one-more-requires
@@ -162,25 +164,26 @@ same-length-3 c = search needs
 returns-6 : tie.Need-returns-6
 unfolding readStep counted need andThen turnTells turnLeaves grid
 returns-6 c =
-    let s = c .before .before .before .before .before .before .before .before .before .before .before .before .before .before .before .before .before .before .before .before .before .before .before in
-    let if1 = c .before .before .before .before .before .before .before .before .before .before .before .before .before .before .before .before .before .before .before .before .if1 in
-    let check-corners = c .before .before .before .before .before .before .before .before .before .before .before .before .before .before .before .before .before .before .before .check-corners in
-    let enum-told = c .before .before .before .before .before .before .before .before .before .before .before .before .before .before .before .before .before .enum-told in
-    let if2 = c .before .before .before .before .before .before .before .before .before .before .before .before .before .before .before .if2 in
-    let read-tuple = c .before .before .before .before .before .before .before .before .before .before .before .read-tuple in
-    let read′ = c .before .before .before .before .before .before .before .before .before .read in
-    let consider-tuple = c .before .before .before .before .before .before .consider-tuple in
-    notes (now (s .args .words)) (now (s .args .times)) _ _ (s .pre .0) (consider-tuple .last .0)
-    (consider-tuple .kept .0 ∙ long (now (s .args .words)) (s .pre .0) HITS HITS-SIZE (omega arith))
-    (rw (
-      lt-ltb _ _ (if1 .left),
-      proper-iff _ .0 (check-corners .ensures ∙ ap cornersSays
-          (enum-told .given .1)),
-      ne-eqb _ _ (if2 .left),
-      tuple-at (read _ _ _) (read-tuple .ensures) _
-          (read′ .given .1),
-      noted-size _ _ (consider _ _ _ _) (consider-tuple .ensures) _
-          (c .before .before .noted .given .1),
+    let at-consider-tuple = c .before .before .before .before .before .before in
+    let at-read = at-consider-tuple .before .before .before in
+    let at-read-tuple = at-read .before .before in
+    let at-if2 = at-read-tuple .before .before .before .before in
+    let at-enum-told = at-if2 .before .before in
+    let at-check-corners = at-enum-told .before .before in
+    let at-if1 = at-check-corners .before in
+    let s = at-if1 .before .before .before in
+    notes (now (s .args .words)) (now (s .args .times)) _ _ (s .pre .0) (at-consider-tuple .consider-tuple .last .0)
+    (at-consider-tuple .consider-tuple .kept .0 ∙ long (now (s .args .words)) (s .pre .0) HITS HITS-SIZE
+    (omega arith)) (rw (
+      lt-ltb _ _ (at-if1 .if1 .left),
+      proper-iff _ .0
+          (at-check-corners .check-corners .ensures ∙ ap cornersSays (at-enum-told .enum-told .given .1)),
+      ne-eqb _
+          _ (at-if2 .if2 .left),
+      tuple-at (read _ _ _) (at-read-tuple .read-tuple .ensures) _
+          (at-read .read .given .1),
+      noted-size _ _ (consider _ _ _ _) (at-consider-tuple .consider-tuple .ensures)
+          _ (c .before .before .noted .given .1),
       c .one-more .ensures,
     ))
 

@@ -27,13 +27,12 @@ returns-3 c =
 returns-4 : tie.Need-returns-4
 unfolding copy needSlot need tells leaves
 returns-4 c =
-    let if1 = c .before .before .before .if1 in
+    let at-if1 = c .before .before .before in
     rw (
-      lt-ltb _ _ (if1 .left),
+      lt-ltb _ _ (at-if1 .if1 .left),
       lt-ltb _ _ (c .before .before .if2 .left),
       lt-ltb _ _ (c .before .if3 .left),
-      le-ltb _ _
-          (c .if4 .taken),
+      le-ltb _ _ (c .if4 .taken),
     )
 
 mul-from : tie.Need-mul-from
@@ -101,14 +100,15 @@ same-length-2 c = search needs
 
 returns-5 : tie.Need-returns-5
 returns-5 c =
-    let s = c .before .before .before .before .before .before .before .before .before .before .before .before .before in
-    let if1 = c .before .before .before .before .before .before .before .before .before .before .before .if1 in
-    let if2 = c .before .before .before .before .before .before .before .before .before .before .if2 in
-    let if3 = c .before .before .before .before .before .before .before .before .before .if3 in
-    let if4 = c .before .before .before .before .before .before .before .before .if4 in
-    let put-tuple = c .before .before .before .put-tuple in
-    copied (now (s .args .tuples)) (put-tuple .last .0) (now (s .args .times)) _ _ _ (if1 .left) (if2 .left) _ _
-    (if3 .left) (if4 .left) (toZ-ofZ w32 _ (record { sfits = c .times .given })) (put-tuple .ensures)
+    let at-put-tuple = c .before .before .before in
+    let at-if4 = at-put-tuple .before .before .before .before .before in
+    let at-if3 = at-if4 .before in
+    let at-if2 = at-if3 .before in
+    let at-if1 = at-if2 .before in
+    let s = at-if1 .before .before in
+    copied (now (s .args .tuples)) (at-put-tuple .put-tuple .last .0) (now (s .args .times)) _ _ _ (at-if1 .if1 .left)
+    (at-if2 .if2 .left) _ _ (at-if3 .if3 .left) (at-if4 .if4 .left)
+    (toZ-ofZ w32 _ (record { sfits = c .times .given })) (at-put-tuple .put-tuple .ensures)
 
 pub copy-tuple-spec : {M : Type 1} → statement M
 copy-tuple-spec =

@@ -29,12 +29,12 @@ in-range-requires c κs = search needs
 returns-3 : tie.Need-returns-3
 unfolding overwrite needSlot need tells leaves
 returns-3 c =
-    let if1 = c .before .before .before .if1 in
+    let at-if1 = c .before .before .before in
     rw (
-      lt-ltb _ _ (if1 .left),
+      lt-ltb _ _ (at-if1 .if1 .left),
       lt-ltb _ _ (c .before .before .if2 .left),
-      sym (c .before .in-range .ensures) ∙ not-true
-          (c .before .in-range .result) (c .if3 .taken),
+      sym (c .before .in-range .ensures)
+          ∙ not-true (c .before .in-range .result) (c .if3 .taken),
     )
 
 mul-i : tie.Need-mul-i
@@ -67,16 +67,17 @@ same-length-2 c = search needs
 
 returns-4 : tie.Need-returns-4
 returns-4 c =
-    let s = c .before .before .before .before .before .before .before .before .before .before in
-    let if1 = c .before .before .before .before .before .before .before .before .if1 in
-    let if2 = c .before .before .before .before .before .before .before .if2 in
-    let in-range = c .before .before .before .before .before .before .in-range in
-    let if3 = c .before .before .before .before .before .if3 in
-    let current-stamp = c .before .before .before .before .current-stamp in
-    overwritten (now (s .args .tuples)) (c .before .before .put-tuple .last .0) (now (s .args .times)) _ _ _ (if1 .left)
-    (if2 .left) _ _ _ _ (sym (in-range .ensures) ∙ not-false (in-range .result) (if3 .left))
-    (toZ-ofZ w32 _ (record { sfits = current-stamp .ok }) ∙ current-stamp .ensures)
-    (c .before .before .put-tuple .ensures)
+    let at-current-stamp = c .before .before .before .before in
+    let at-if3 = at-current-stamp .before in
+    let at-in-range = at-if3 .before in
+    let at-if2 = at-in-range .before in
+    let at-if1 = at-if2 .before in
+    let s = at-if1 .before .before in
+    overwritten (now (s .args .tuples)) (c .before .before .put-tuple .last .0) (now (s .args .times)) _ _ _
+    (at-if1 .if1 .left) (at-if2 .if2 .left) _ _ _ _ (sym (at-in-range .in-range .ensures) ∙ not-false
+    (at-in-range .in-range .result) (at-if3 .if3 .left))
+    (toZ-ofZ w32 _ (record { sfits = at-current-stamp .current-stamp .ok }) ∙
+    at-current-stamp .current-stamp .ensures) (c .before .before .put-tuple .ensures)
 
 pub overwrite-tuple-spec : {M : Type 1} → statement M
 overwrite-tuple-spec =

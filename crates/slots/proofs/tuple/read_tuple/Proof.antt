@@ -102,63 +102,64 @@ shared-slice-read-t39 c = search needs
 returns-3 : tie.Need-returns-3
 unfolding read needSlot seen need tells
 returns-3 c =
-    let if1 = c .before .before .before .before .before .if1 in
-    let if2 = c .before .before .before .before .if2 in
-    let found = c .before .before .before .s in
+    let at-s = c .before .before .before in
+    let at-if2 = at-s .before in
+    let at-if1 = at-if2 .before in
     rw (
-      lt-ltb _ _ (if1 .left),
-      lt-ltb _ _ (if2 .left),
+      lt-ltb _ _ (at-if1 .if1 .left),
+      lt-ltb _ _ (at-if2 .if2 .left),
       sym
-          (rw (toZ-ofZ w32 _ (record { sfits = found .given })) at (c .before .before .read-stamp .ensures)),
+          (rw (toZ-ofZ w32 _ (record { sfits = at-s .s .given })) at (c .before .before .read-stamp .ensures)),
       c .enum-told .given .1,
     )
 
 returns-4 : tie.Need-returns-4
 unfolding read needSlot seen need tells
 returns-4 c =
-    let s = c .before .before .before .before .before .before .before .before .before .before .before in
-    let if1 = c .before .before .before .before .before .before .before .before .before .if1 in
-    let if2 = c .before .before .before .before .before .before .before .before .if2 in
-    let found = c .before .before .before .before .before .before .before .s in
-    let read-stamp = c .before .before .before .before .before .before .read-stamp in
-    let stamp = c .before .before .before .before .stamp in
+    let at-stamp = c .before .before .before .before in
+    let at-read-stamp = at-stamp .before .before in
+    let at-s = at-read-stamp .before in
+    let at-if2 = at-s .before in
+    let at-if1 = at-if2 .before in
+    let s = at-if1 .before .before in
     rw (
-      lt-ltb _ _ (if1 .left),
-      lt-ltb _ _ (if2 .left),
+      lt-ltb _ _ (at-if1 .if1 .left),
+      lt-ltb _ _ (at-if2 .if2 .left),
       sym
-          (rw (toZ-ofZ w32 _ (record { sfits = found .given })) at (read-stamp .ensures)),
-      stamp .given .1,
-      part-at
-          (now (s .args .tuples)) 0 2048 (4 * s .args .bucket + s .args .slot) 0 (lt-slot (if1 .left) (if2 .left)),
+          (rw (toZ-ofZ w32 _ (record { sfits = at-s .s .given })) at (at-read-stamp .read-stamp .ensures)),
+      at-stamp .stamp .given .1,
+      part-at (now (s .args .tuples)) 0 2048 (4 * s .args .bucket + s .args .slot) 0
+          (lt-slot (at-if1 .if1 .left) (at-if2 .if2 .left)),
       zero-add (4 * s .args .bucket + s .args .slot),
-      part-at (now (s .args .tuples)) TUPLE-XS 2048
-          (4 * s .args .bucket + s .args .slot) 0 (lt-slot (if1 .left) (if2 .left)),
-      part-at (now (s .args .tuples))
-          TUPLE-YS 2048 (4 * s .args .bucket + s .args .slot) 0 (lt-slot (if1 .left) (if2 .left)),
+      part-at
+          (now (s .args .tuples)) TUPLE-XS 2048 (4 * s .args .bucket + s .args .slot) 0
+          (lt-slot (at-if1 .if1 .left) (at-if2 .if2 .left)),
+      part-at (now (s .args .tuples)) TUPLE-YS 2048
+          (4 * s .args .bucket + s .args .slot) 0 (lt-slot (at-if1 .if1 .left) (at-if2 .if2 .left)),
     )
 
 returns-5 : tie.Need-returns-5
 unfolding read needSlot seen need tells
 returns-5 c =
-    let s = c .before .before .before .before .before .before .before .before .before .before .before in
-    let if1 = c .before .before .before .before .before .before .before .before .before .if1 in
-    let if2 = c .before .before .before .before .before .before .before .before .if2 in
-    let found = c .before .before .before .before .before .before .before .s in
-    let read-stamp = c .before .before .before .before .before .before .read-stamp in
-    let stamp2 = c .before .before .before .before .stamp2 in
+    let at-stamp2 = c .before .before .before .before in
+    let at-read-stamp = at-stamp2 .before .before in
+    let at-s = at-read-stamp .before in
+    let at-if2 = at-s .before in
+    let at-if1 = at-if2 .before in
+    let s = at-if1 .before .before in
     rw (
-      lt-ltb _ _ (if1 .left),
-      lt-ltb _ _ (if2 .left),
+      lt-ltb _ _ (at-if1 .if1 .left),
+      lt-ltb _ _ (at-if2 .if2 .left),
       sym
-          (rw (toZ-ofZ w32 _ (record { sfits = found .given })) at (read-stamp .ensures)),
-      stamp2 .given .1,
-      part-at
-          (now (s .args .tuples)) 0 2048 (4 * s .args .bucket + s .args .slot) 0 (lt-slot (if1 .left) (if2 .left)),
+          (rw (toZ-ofZ w32 _ (record { sfits = at-s .s .given })) at (at-read-stamp .read-stamp .ensures)),
+      at-stamp2 .stamp2 .given .1,
+      part-at (now (s .args .tuples)) 0 2048 (4 * s .args .bucket + s .args .slot)
+          0 (lt-slot (at-if1 .if1 .left) (at-if2 .if2 .left)),
       zero-add (4 * s .args .bucket + s .args .slot),
-      part-at (now (s .args .tuples)) TUPLE-XS 2048
-          (4 * s .args .bucket + s .args .slot) 0 (lt-slot (if1 .left) (if2 .left)),
-      part-at (now (s .args .tuples))
-          TUPLE-YS 2048 (4 * s .args .bucket + s .args .slot) 0 (lt-slot (if1 .left) (if2 .left)),
+      part-at (now (s .args .tuples)) TUPLE-XS 2048 (4 * s .args .bucket + s .args .slot) 0
+          (lt-slot (at-if1 .if1 .left) (at-if2 .if2 .left)),
+      part-at (now (s .args .tuples)) TUPLE-YS 2048
+          (4 * s .args .bucket + s .args .slot) 0 (lt-slot (at-if1 .if1 .left) (at-if2 .if2 .left)),
     )
 
 pub read-tuple-spec : {M : Type 1} → statement M

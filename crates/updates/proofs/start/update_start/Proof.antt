@@ -40,14 +40,14 @@ right-words-requires c κs = search needs
 
 returns : tie.Need-returns
 returns c =
-    start-sizes (whole (c .before .before .before)) _ _ _ _ _
-    (sized (c .before) (not-true (c .before .right-words .result) (c .if1 .taken)))
+    let s = c .before .before .before in
+    start-sizes (whole s) _ _ _ _ _ (sized (c .before) (not-true (c .before .right-words .result) (c .if1 .taken)))
 
 returns-2 : tie.Need-returns-2
 returns-2 c =
-    start-lane (whole (c .before .before .before .before)) _ _ _ _ _
-    (sized (c .before .before) (not-false (c .before .before .right-words .result) (c .before .if1 .left)))
-    (c .if2 .taken)
+    let s = c .before .before .before .before in
+    start-lane (whole s) _ _ _ _ _ (sized (c .before .before)
+    (not-false (c .before .before .right-words .result) (c .before .if1 .left))) (c .if2 .taken)
 
 mul-u : tie.Need-mul-u
 mul-u c = search needs
@@ -60,21 +60,23 @@ is-idle-requires c κs = search needs
 
 returns-3 : tie.Need-returns-3
 returns-3 c =
-    let right-words = c .before .before .before .before .before .right-words in
-    let if1 = c .before .before .before .before .if1 in
-    let if2 = c .before .before .before .if2 in
-    start-taken (whole (c .before .before .before .before .before .before .before)) _ _ _ _ _
-    (sized (c .before .before .before .before .before) (not-false (right-words .result) (if1 .left)))
-    (if2 .left) (sym (c .before .is-idle .ensures) ∙ not-true (c .before .is-idle .result) (c .if3 .taken))
+    let at-if2 = c .before .before .before in
+    let at-if1 = at-if2 .before in
+    let at-right-words = at-if1 .before in
+    let s = at-right-words .before .before in
+    start-taken (whole s) _ _ _ _ _ (sized at-right-words
+    (not-false (at-right-words .right-words .result) (at-if1 .if1 .left))) (at-if2 .if2 .left)
+    (sym (c .before .is-idle .ensures) ∙ not-true (c .before .is-idle .result) (c .if3 .taken))
 
 returns-4 : tie.Need-returns-4
 returns-4 c =
-    let right-words = c .before .before .before .before .before .before .right-words in
-    let if1 = c .before .before .before .before .before .if1 in
-    let if2 = c .before .before .before .before .if2 in
-    start-nobody (whole (c .before .before .before .before .before .before .before .before)) _ _ _ _ _
-    (sized (c .before .before .before .before .before .before) (not-false (right-words .result) (if1 .left)))
-    (if2 .left) (sym (c .before .before .is-idle .ensures) ∙ not-false (c .before .before .is-idle .result)
+    let at-if2 = c .before .before .before .before in
+    let at-if1 = at-if2 .before in
+    let at-right-words = at-if1 .before in
+    let s = at-right-words .before .before in
+    start-nobody (whole s) _ _ _ _ _ (sized at-right-words
+    (not-false (at-right-words .right-words .result) (at-if1 .if1 .left))) (at-if2 .if2 .left)
+    (sym (c .before .before .is-idle .ensures) ∙ not-false (c .before .before .is-idle .result)
     (c .before .if3 .left)) (c .if4 .taken)
 
 on-grid-requires : tie.Need-on-grid-requires
@@ -82,58 +84,59 @@ on-grid-requires c κs = search needs
 
 returns-5 : tie.Need-returns-5
 returns-5 c =
-    let right-words = c .before .before .before .before .before .before .before .before .right-words in
-    let if1 = c .before .before .before .before .before .before .before .if1 in
-    let if2 = c .before .before .before .before .before .before .if2 in
-    let is-idle = c .before .before .before .before .is-idle in
-    let if3 = c .before .before .before .if3 in
-    start-off (whole (c .before .before .before .before .before .before .before .before .before .before)) _ _ _ _ _
-    (sized (c .before .before .before .before .before .before .before .before)
-    (not-false (right-words .result) (if1 .left))) (if2 .left)
-    (sym (is-idle .ensures) ∙ not-false (is-idle .result) (if3 .left)) (c .before .before .if4 .left)
-    (sym (c .before .on-grid .ensures) ∙ not-true (c .before .on-grid .result) (c .if5 .taken))
+    let at-if3 = c .before .before .before in
+    let at-is-idle = at-if3 .before in
+    let at-if2 = at-is-idle .before .before in
+    let at-if1 = at-if2 .before in
+    let at-right-words = at-if1 .before in
+    let s = at-right-words .before .before in
+    start-off (whole s) _ _ _ _ _ (sized at-right-words
+    (not-false (at-right-words .right-words .result) (at-if1 .if1 .left))) (at-if2 .if2 .left)
+    (sym (at-is-idle .is-idle .ensures) ∙ not-false (at-is-idle .is-idle .result) (at-if3 .if3 .left))
+    (c .before .before .if4 .left) (sym (c .before .on-grid .ensures) ∙ not-true (c .before .on-grid .result)
+    (c .if5 .taken))
 
 seek-object-requires : tie.Need-seek-object-requires
 seek-object-requires c κs =
-    let right-words = c .before .before .before .before .before .before .before .before .before .right-words in
-    let if1 = c .before .before .before .before .before .before .before .before .if1 in
-    (lent (c .before .before .before .before .before .before .before .before .before)
-    (not-false (right-words .result) (if1 .left))) .0
+    let at-if1 = c .before .before .before .before .before .before .before .before in
+    let at-right-words = at-if1 .before in
+    (lent at-right-words (not-false (at-right-words .right-words .result) (at-if1 .if1 .left))) .0
 
 has-room-requires : tie.Need-has-room-requires
 has-room-requires c κs =
-    let right-words = c .before .before .before .before .before .before .before .before .before .before .before .right-words in
-    let if1 = c .before .before .before .before .before .before .before .before .before .before .if1 in
-    (lent (c .before .before .before .before .before .before .before .before .before .before .before)
-    (not-false (right-words .result) (if1 .left))) .0
+    let at-if1 = c .before .before .before .before .before .before .before .before .before .before in
+    let at-right-words = at-if1 .before in
+    (lent at-right-words (not-false (at-right-words .right-words .result) (at-if1 .if1 .left))) .0
 
 same-length : tie.Need-same-length
 same-length c = search needs
 
 returns-6 : tie.Need-returns-6
 returns-6 c =
-    let s = c .before .before .before .before .before .before .before .before .before .before .before .before .before .before .before in
-    let right-words = c .before .before .before .before .before .before .before .before .before .before .before .before .before .right-words in
-    let if1 = c .before .before .before .before .before .before .before .before .before .before .before .before .if1 in
-    let if2 = c .before .before .before .before .before .before .before .before .before .before .before .if2 in
-    let is-idle = c .before .before .before .before .before .before .before .before .before .is-idle in
-    let if3 = c .before .before .before .before .before .before .before .before .if3 in
-    let if4 = c .before .before .before .before .before .before .before .if4 in
-    let on-grid = c .before .before .before .before .before .before .on-grid in
-    let if5 = c .before .before .before .before .before .if5 in
-    let seek-object = c .before .before .before .seek-object in
-    start-full (whole
-    (c .before .before .before .before .before .before .before .before .before .before .before .before .before .before .before)) _ _ _ _ _ (sized (c .before .before .before .before .before .before .before .before .before .before .before .before .before) (not-false (right-words .result) (if1 .left))) (if2 .left) (sym (is-idle .ensures) ∙ not-false (is-idle .result) (if3 .left)) (if4 .left) (sym (on-grid .ensures) ∙ not-false (on-grid .result) (if5 .left)) (room-told (whole (c .before .before .before .before .before .before .before .before .before .before .before .before .before .before .before)) _ (seek-object .result) (seek-object .ensures (now (s .args .times))) (c .before .has-room .ensures (now (s .args .times)) ∙ not-true (c .before .has-room .result) (c .if6 .taken)))
+    let at-seek-object = c .before .before .before in
+    let at-if5 = at-seek-object .before .before in
+    let at-on-grid = at-if5 .before in
+    let at-if4 = at-on-grid .before in
+    let at-if3 = at-if4 .before in
+    let at-is-idle = at-if3 .before in
+    let at-if2 = at-is-idle .before .before in
+    let at-if1 = at-if2 .before in
+    let at-right-words = at-if1 .before in
+    let s = at-right-words .before .before in
+    start-full (whole s) _ _ _ _ _ (sized at-right-words
+    (not-false (at-right-words .right-words .result) (at-if1 .if1 .left))) (at-if2 .if2 .left)
+    (sym (at-is-idle .is-idle .ensures) ∙ not-false (at-is-idle .is-idle .result) (at-if3 .if3 .left))
+    (at-if4 .if4 .left) (sym (at-on-grid .on-grid .ensures) ∙ not-false (at-on-grid .on-grid .result)
+    (at-if5 .if5 .left)) (room-told (whole s) _ (at-seek-object .seek-object .result)
+    (at-seek-object .seek-object .ensures (now (s .args .times)))
+    (c .before .has-room .ensures (now (s .args .times)) ∙ not-true (c .before .has-room .result)
+    (c .if6 .taken)))
 
 slice-read-if7 : tie.Need-slice-read-if7
 slice-read-if7 c =
-    let right-words = c .before .before .before .before .before .before .before .before .before .before .before .before .before .before .right-words in
-    let if1 = c .before .before .before .before .before .before .before .before .before .before .before .before .before .if1 in
-    omega (
-      arith,
-      (lent
-          (c .before .before .before .before .before .before .before .before .before .before .before .before .before .before) (not-false (right-words .result) (if1 .left))) .0,
-    )
+    let at-if1 = c .before .before .before .before .before .before .before .before .before .before .before .before .before in
+    let at-right-words = at-if1 .before in
+    omega (arith, (lent at-right-words (not-false (at-right-words .right-words .result) (at-if1 .if1 .left))) .0)
 
 same-length-2 : tie.Need-same-length-2
 same-length-2 c = search needs
@@ -141,28 +144,33 @@ same-length-2 c = search needs
 returns-7 : tie.Need-returns-7
 unfolding grid
 returns-7 c =
-    let s = c .before .before .before .before .before .before .before .before .before .before .before .before .before .before .before .before .before in
-    let right-words = c .before .before .before .before .before .before .before .before .before .before .before .before .before .before .before .right-words in
-    let if1 = c .before .before .before .before .before .before .before .before .before .before .before .before .before .before .if1 in
-    let if2 = c .before .before .before .before .before .before .before .before .before .before .before .before .before .if2 in
-    let is-idle = c .before .before .before .before .before .before .before .before .before .before .before .is-idle in
-    let if3 = c .before .before .before .before .before .before .before .before .before .before .if3 in
-    let if4 = c .before .before .before .before .before .before .before .before .before .if4 in
-    let on-grid = c .before .before .before .before .before .before .before .before .on-grid in
-    let if5 = c .before .before .before .before .before .before .before .if5 in
-    let seek-object = c .before .before .before .before .before .seek-object in
-    let has-room = c .before .before .before .has-room in
-    start-spent (whole
-    (c .before .before .before .before .before .before .before .before .before .before .before .before .before .before .before .before .before)) _ _ _ _ _ (sized (c .before .before .before .before .before .before .before .before .before .before .before .before .before .before .before) (not-false (right-words .result) (if1 .left))) (if2 .left) (sym (is-idle .ensures) ∙ not-false (is-idle .result) (if3 .left)) (if4 .left) (sym (on-grid .ensures) ∙ not-false (on-grid .result) (if5 .left)) (room-told (whole (c .before .before .before .before .before .before .before .before .before .before .before .before .before .before .before .before .before)) _ (seek-object .result) (seek-object .ensures (now (s .args .times))) (has-room .ensures (now (s .args .times)) ∙ not-false (has-room .result) (c .before .before .if6 .left))) (c .if7 .taken)
+    let at-has-room = c .before .before .before in
+    let at-seek-object = at-has-room .before .before in
+    let at-if5 = at-seek-object .before .before in
+    let at-on-grid = at-if5 .before in
+    let at-if4 = at-on-grid .before in
+    let at-if3 = at-if4 .before in
+    let at-is-idle = at-if3 .before in
+    let at-if2 = at-is-idle .before .before in
+    let at-if1 = at-if2 .before in
+    let at-right-words = at-if1 .before in
+    let s = at-right-words .before .before in
+    start-spent (whole s) _ _ _ _ _ (sized at-right-words
+    (not-false (at-right-words .right-words .result) (at-if1 .if1 .left))) (at-if2 .if2 .left)
+    (sym (at-is-idle .is-idle .ensures) ∙ not-false (at-is-idle .is-idle .result) (at-if3 .if3 .left))
+    (at-if4 .if4 .left) (sym (at-on-grid .on-grid .ensures) ∙ not-false (at-on-grid .on-grid .result)
+    (at-if5 .if5 .left)) (room-told (whole s) _ (at-seek-object .seek-object .result)
+    (at-seek-object .seek-object .ensures (now (s .args .times)))
+    (at-has-room .has-room .ensures (now (s .args .times)) ∙ not-false (at-has-room .has-room .result)
+    (c .before .before .if6 .left))) (c .if7 .taken)
 
 enter-there-requires : tie.Need-enter-there-requires
 enter-there-requires c κs =
-    let right-words = c .before .before .before .before .before .before .before .before .before .before .before .before .before .before .before .before .right-words in
-    let if1 = c .before .before .before .before .before .before .before .before .before .before .before .before .before .before .before .if1 in
-    let seek-object = c .before .before .before .before .before .before .seek-object in (
-      (lent
-          (c .before .before .before .before .before .before .before .before .before .before .before .before .before .before .before .before) (not-false (right-words .result) (if1 .left))) .0,
-      seek-object .ensures,
+    let at-seek-object = c .before .before .before .before .before .before in
+    let at-if1 = at-seek-object .before .before .before .before .before .before .before .before .before in
+    let at-right-words = at-if1 .before in (
+      (lent at-right-words (not-false (at-right-words .right-words .result) (at-if1 .if1 .left))) .0,
+      at-seek-object .seek-object .ensures,
     )
 
 enum-told : tie.Need-enum-told
@@ -177,22 +185,29 @@ same-length-3 c = search needs
 returns-8 : tie.Need-returns-8
 unfolding grid
 returns-8 c =
-    let s = c .before .before .before .before .before .before .before .before .before .before .before .before .before .before .before .before .before .before .before .before .before .before .before in
-    let right-words = c .before .before .before .before .before .before .before .before .before .before .before .before .before .before .before .before .before .before .before .before .before .right-words in
-    let if1 = c .before .before .before .before .before .before .before .before .before .before .before .before .before .before .before .before .before .before .before .before .if1 in
-    let if2 = c .before .before .before .before .before .before .before .before .before .before .before .before .before .before .before .before .before .before .before .if2 in
-    let is-idle = c .before .before .before .before .before .before .before .before .before .before .before .before .before .before .before .before .before .is-idle in
-    let if3 = c .before .before .before .before .before .before .before .before .before .before .before .before .before .before .before .before .if3 in
-    let if4 = c .before .before .before .before .before .before .before .before .before .before .before .before .before .before .before .if4 in
-    let on-grid = c .before .before .before .before .before .before .before .before .before .before .before .before .before .before .on-grid in
-    let if5 = c .before .before .before .before .before .before .before .before .before .before .before .before .before .if5 in
-    let seek-object = c .before .before .before .before .before .before .before .before .before .before .before .seek-object in
-    let has-room = c .before .before .before .before .before .before .before .before .before .has-room in
-    let if6 = c .before .before .before .before .before .before .before .before .if6 in
-    let if7 = c .before .before .before .before .before .before .if7 in
-    let enter-there = c .before .before .before .before .enter-there in
-    start-corrupt (whole
-    (c .before .before .before .before .before .before .before .before .before .before .before .before .before .before .before .before .before .before .before .before .before .before .before)) _ _ _ _ _ (sized (c .before .before .before .before .before .before .before .before .before .before .before .before .before .before .before .before .before .before .before .before .before) (not-false (right-words .result) (if1 .left))) (if2 .left) (sym (is-idle .ensures) ∙ not-false (is-idle .result) (if3 .left)) (if4 .left) (sym (on-grid .ensures) ∙ not-false (on-grid .result) (if5 .left)) (room-told (whole (c .before .before .before .before .before .before .before .before .before .before .before .before .before .before .before .before .before .before .before .before .before .before .before)) _ (seek-object .result) (seek-object .ensures (now (s .args .times))) (has-room .ensures (now (s .args .times)) ∙ not-false (has-room .result) (if6 .left))) (if7 .left) (enter-there .result) _ (enter-there .ensures (now (s .args .times))) (c .enum-told2 .given .1)
+    let at-enter-there = c .before .before .before .before in
+    let at-if7 = at-enter-there .before .before in
+    let at-if6 = at-if7 .before .before in
+    let at-has-room = at-if6 .before in
+    let at-seek-object = at-has-room .before .before in
+    let at-if5 = at-seek-object .before .before in
+    let at-on-grid = at-if5 .before in
+    let at-if4 = at-on-grid .before in
+    let at-if3 = at-if4 .before in
+    let at-is-idle = at-if3 .before in
+    let at-if2 = at-is-idle .before .before in
+    let at-if1 = at-if2 .before in
+    let at-right-words = at-if1 .before in
+    let s = at-right-words .before .before in
+    start-corrupt (whole s) _ _ _ _ _ (sized at-right-words
+    (not-false (at-right-words .right-words .result) (at-if1 .if1 .left))) (at-if2 .if2 .left)
+    (sym (at-is-idle .is-idle .ensures) ∙ not-false (at-is-idle .is-idle .result) (at-if3 .if3 .left))
+    (at-if4 .if4 .left) (sym (at-on-grid .on-grid .ensures) ∙ not-false (at-on-grid .on-grid .result)
+    (at-if5 .if5 .left)) (room-told (whole s) _ (at-seek-object .seek-object .result)
+    (at-seek-object .seek-object .ensures (now (s .args .times)))
+    (at-has-room .has-room .ensures (now (s .args .times)) ∙ not-false (at-has-room .has-room .result)
+    (at-if6 .if6 .left))) (at-if7 .if7 .left) (at-enter-there .enter-there .result) _
+    (at-enter-there .enter-there .ensures (now (s .args .times))) (c .enum-told2 .given .1)
 
 mul-next : tie.Need-mul-next
 mul-next c = search needs
@@ -206,22 +221,29 @@ same-length-4 c = search needs
 returns-9 : tie.Need-returns-9
 unfolding grid
 returns-9 c =
-    let s = c .before .before .before .before .before .before .before .before .before .before .before .before .before .before .before .before .before .before .before .before .before .before .before in
-    let right-words = c .before .before .before .before .before .before .before .before .before .before .before .before .before .before .before .before .before .before .before .before .before .right-words in
-    let if1 = c .before .before .before .before .before .before .before .before .before .before .before .before .before .before .before .before .before .before .before .before .if1 in
-    let if2 = c .before .before .before .before .before .before .before .before .before .before .before .before .before .before .before .before .before .before .before .if2 in
-    let is-idle = c .before .before .before .before .before .before .before .before .before .before .before .before .before .before .before .before .before .is-idle in
-    let if3 = c .before .before .before .before .before .before .before .before .before .before .before .before .before .before .before .before .if3 in
-    let if4 = c .before .before .before .before .before .before .before .before .before .before .before .before .before .before .before .if4 in
-    let on-grid = c .before .before .before .before .before .before .before .before .before .before .before .before .before .before .on-grid in
-    let if5 = c .before .before .before .before .before .before .before .before .before .before .before .before .before .if5 in
-    let seek-object = c .before .before .before .before .before .before .before .before .before .before .before .seek-object in
-    let has-room = c .before .before .before .before .before .before .before .before .before .has-room in
-    let if6 = c .before .before .before .before .before .before .before .before .if6 in
-    let if7 = c .before .before .before .before .before .before .if7 in
-    let enter-there = c .before .before .before .before .enter-there in
-    start-done (whole
-    (c .before .before .before .before .before .before .before .before .before .before .before .before .before .before .before .before .before .before .before .before .before .before .before)) _ _ _ _ _ (sized (c .before .before .before .before .before .before .before .before .before .before .before .before .before .before .before .before .before .before .before .before .before) (not-false (right-words .result) (if1 .left))) (if2 .left) (sym (is-idle .ensures) ∙ not-false (is-idle .result) (if3 .left)) (if4 .left) (sym (on-grid .ensures) ∙ not-false (on-grid .result) (if5 .left)) (room-told (whole (c .before .before .before .before .before .before .before .before .before .before .before .before .before .before .before .before .before .before .before .before .before .before .before)) _ (seek-object .result) (seek-object .ensures (now (s .args .times))) (has-room .ensures (now (s .args .times)) ∙ not-false (has-room .result) (if6 .left))) (if7 .left) (enter-there .result) _ (enter-there .ensures (now (s .args .times))) (c .enum-told .given .1)
+    let at-enter-there = c .before .before .before .before in
+    let at-if7 = at-enter-there .before .before in
+    let at-if6 = at-if7 .before .before in
+    let at-has-room = at-if6 .before in
+    let at-seek-object = at-has-room .before .before in
+    let at-if5 = at-seek-object .before .before in
+    let at-on-grid = at-if5 .before in
+    let at-if4 = at-on-grid .before in
+    let at-if3 = at-if4 .before in
+    let at-is-idle = at-if3 .before in
+    let at-if2 = at-is-idle .before .before in
+    let at-if1 = at-if2 .before in
+    let at-right-words = at-if1 .before in
+    let s = at-right-words .before .before in
+    start-done (whole s) _ _ _ _ _ (sized at-right-words
+    (not-false (at-right-words .right-words .result) (at-if1 .if1 .left))) (at-if2 .if2 .left)
+    (sym (at-is-idle .is-idle .ensures) ∙ not-false (at-is-idle .is-idle .result) (at-if3 .if3 .left))
+    (at-if4 .if4 .left) (sym (at-on-grid .on-grid .ensures) ∙ not-false (at-on-grid .on-grid .result)
+    (at-if5 .if5 .left)) (room-told (whole s) _ (at-seek-object .seek-object .result)
+    (at-seek-object .seek-object .ensures (now (s .args .times)))
+    (at-has-room .has-room .ensures (now (s .args .times)) ∙ not-false (at-has-room .has-room .result)
+    (at-if6 .if6 .left))) (at-if7 .if7 .left) (at-enter-there .enter-there .result) _
+    (at-enter-there .enter-there .ensures (now (s .args .times))) (c .enum-told .given .1)
 
 pub update-start-spec : {M : Type 1} → statement M
 update-start-spec =

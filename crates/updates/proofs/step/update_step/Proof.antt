@@ -37,14 +37,14 @@ right-words-requires c κs = search needs
 
 returns : tie.Need-returns
 returns c =
-    step-sizes (whole (c .before .before .before)) _ _ (sized (c .before)
-    (not-true (c .before .right-words .result) (c .if1 .taken)))
+    let s = c .before .before .before in
+    step-sizes (whole s) _ _ (sized (c .before) (not-true (c .before .right-words .result) (c .if1 .taken)))
 
 returns-2 : tie.Need-returns-2
 returns-2 c =
-    step-lane (whole (c .before .before .before .before)) _ _
-    (sized (c .before .before) (not-false (c .before .before .right-words .result) (c .before .if1 .left)))
-    (c .if2 .taken)
+    let s = c .before .before .before .before in
+    step-lane (whole s) _ _ (sized (c .before .before)
+    (not-false (c .before .before .right-words .result) (c .before .if1 .left))) (c .if2 .taken)
 
 mul-u : tie.Need-mul-u
 mul-u c = search needs
@@ -57,21 +57,21 @@ is-idle-requires c κs = search needs
 
 returns-3 : tie.Need-returns-3
 returns-3 c =
-    let right-words = c .before .before .before .before .before .right-words in
-    let if1 = c .before .before .before .before .if1 in
-    let if2 = c .before .before .before .if2 in
-    step-idle (whole (c .before .before .before .before .before .before .before)) _ _
-    (sized (c .before .before .before .before .before) (not-false (right-words .result) (if1 .left)))
-    (if2 .left) (sym (c .before .is-idle .ensures) ∙ c .if3 .taken)
+    let at-if2 = c .before .before .before in
+    let at-if1 = at-if2 .before in
+    let at-right-words = at-if1 .before in
+    let s = at-right-words .before .before in
+    step-idle (whole s) _ _ (sized at-right-words (not-false (at-right-words .right-words .result)
+    (at-if1 .if1 .left))) (at-if2 .if2 .left) (sym (c .before .is-idle .ensures) ∙ c .if3 .taken)
 
 add-step-stage : tie.Need-add-step-stage
 add-step-stage c = search needs
 
 step-stage-requires : tie.Need-step-stage-requires
 step-stage-requires c κs =
-    let right-words = c .before .before .before .before .before .before .before .right-words in
-    let if1 = c .before .before .before .before .before .before .if1 in
-    (lent (c .before .before .before .before .before .before .before) (not-false (right-words .result) (if1 .left)))
+    let at-if1 = c .before .before .before .before .before .before in
+    let at-right-words = at-if1 .before in
+    (lent at-right-words (not-false (at-right-words .right-words .result) (at-if1 .if1 .left)))
 
 end-step-requires : tie.Need-end-step-requires
 end-step-requires c κs = search needs
@@ -84,14 +84,17 @@ same-length-2 c = search needs
 
 returns-4 : tie.Need-returns-4
 returns-4 c =
-    let right-words = c .before .before .before .before .before .before .before .before .before .before .before .before .right-words in
-    let if1 = c .before .before .before .before .before .before .before .before .before .before .before .if1 in
-    let if2 = c .before .before .before .before .before .before .before .before .before .before .if2 in
-    let is-idle = c .before .before .before .before .before .before .before .before .is-idle in
-    let if3 = c .before .before .before .before .before .before .before .if3 in
-    let step-stage′ = c .before .before .before .before .step-stage in
-    step-stage (whole
-    (c .before .before .before .before .before .before .before .before .before .before .before .before .before .before)) _ _ (sized (c .before .before .before .before .before .before .before .before .before .before .before .before) (not-false (right-words .result) (if1 .left))) (if2 .left) (sym (is-idle .ensures) ∙ if3 .left) (step-stage′ .result) _ _ _ (step-stage′ .ensures) (c .end-step .ensures .0) (c .end-step .ensures .1)
+    let at-step-stage = c .before .before .before .before in
+    let at-if3 = at-step-stage .before .before .before in
+    let at-is-idle = at-if3 .before in
+    let at-if2 = at-is-idle .before .before in
+    let at-if1 = at-if2 .before in
+    let at-right-words = at-if1 .before in
+    let s = at-right-words .before .before in
+    step-stage (whole s) _ _ (sized at-right-words (not-false (at-right-words .right-words .result)
+    (at-if1 .if1 .left))) (at-if2 .if2 .left) (sym (at-is-idle .is-idle .ensures) ∙ at-if3 .if3 .left)
+    (at-step-stage .step-stage .result) _ _ _ (at-step-stage .step-stage .ensures) (c .end-step .ensures .0)
+    (c .end-step .ensures .1)
 
 pub update-step-spec : {M : Type 1} → statement M
 update-step-spec =
