@@ -1,4 +1,8 @@
--- What every stage's proof shares.
+-- How each clause of the invariant gets over a step, for all stages once.
+-- There are three arguments. A tuple written over touches only its own object's signs (`fit-put`) and stays in its cell if it is
+-- given a place of that cell (`placed-put`). A step of one update changes nothing that another has locked, so what the others say
+-- stays (`oks`, by `Local`), and with it the tuple that another has written and not yet counted (`writes`). And a sum over lanes in
+-- which one term changes follows that term (`sum-one`), so that a stage which draws a stamp has one draw less to come (`ticks-step`).
 use mathlib.Core.Path.{_≡_, refl, sym, ap, _∙_}
 use mathlib.Core.Logic.{_≢_, _⊎_, inl, inr, ⊎-elim}
 use mathlib.Core.Bool.{Bool}

@@ -1,4 +1,16 @@
--- The invariant of layer B: ghost positions keyed by oid, records over the tables they read.
+-- THE INVARIANT of the index while updates and queries take turns, over the tables of `machine`.
+-- It says what the paper takes for granted of its listings: where the tuples of each object lie, in the middle of an update too.
+-- Beside the tables it keeps three things that no table holds (`Ghost`): who owns each bucket (the pool, a cell's chain at some
+-- height, or an update that has unlinked it), the height of each chain, and for each object the places of its tuples (`Pos`).
+-- Of an object there are at most four: the current tuple, the previous one, a new one that the index does not name yet (from
+-- stage 11 to stage 12), and the second copy of a tuple that is moved within its cell (from stage 4 to stage 5).
+-- The clauses that carry the rest: every slot below its bucket's count is exactly one such place of the object in it (`Slots`);
+-- a current tuple has a positive time and a flagged previous one a negative, and the two lie in different cells (`Fit`); what the
+-- index says of an object that nobody has locked is what is there (`Free`); and each update says how far it is with what it has
+-- locked (`Ok`).
+-- What an update says rests only on what it has locked (`frame`). So a step of another update cannot make it false, and the
+-- proof of a stage has to look at its own update alone.
+-- A clause is a record over just the tables that it reads: a stage that leaves those alone keeps it as it stands.
 use mathlib.Core.Path.{_≡_, _∙_}
 use mathlib.Core.Logic.{_≢_, _⊎_}
 use mathlib.Core.Bool.{Bool, true, false}
@@ -25,7 +37,7 @@ pub record Stored {O : StoreOps} (S : Store O) (own : ℕ → Owner) (pool : Lis
   pub below : (b : ℕ) → S .Has pool b → b < 512
   pub fine : S .Fine pool
 
--- ---- layer B's ghost: for each oid the places of its tuples. `fresh`: the previous tuple is not flagged yet (stage 13)
+-- ---- for each object the places of its tuples. `fresh`: the previous tuple is not flagged yet (stage 13 is to come)
 pub record Pos : Type 0 where
   pub cur : Option Place
   pub prev : Option Place

@@ -1,4 +1,7 @@
--- The start of an update and every stage: the invariant is kept, and none is refused with 12. Ranges that follow from the invariant.
+-- Every start and every stage together: the invariant is kept, and none is refused with 12 (`keeps-begin`, `by-stage`).
+-- A start only enters a lane and, if need be, an object without places; there is room for it, as fewer than 256 are known (`ranked`).
+-- A stage is the lemma named after it (`keeps1` to `keeps14`); at stage 9 the pool has a bucket, by Dry.antt. At the end: the
+-- numbers that a step uses are in their ranges (`ranges`, `place-range`), which the invariant implies.
 use mathlib.Core.Path.{_≡_, refl, sym, ap, _∙_}
 use mathlib.Core.Logic.{_≢_, inl, inr, ⊎-elim}
 use mathlib.Core.Bool.{Bool, true, false, not, _&&_}

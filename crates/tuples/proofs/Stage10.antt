@@ -1,4 +1,11 @@
--- Stages 10 and 11: write the new tuple above the count; raise the count.
+-- Stages 10 and 11: the new tuple is written into the slot above the count, and then the count is raised.
+-- Stage 10 writes a slot that is not counted, so no place of any object changes (`keeps`). It draws a stamp, which is positive and
+-- not above the clock. Stage 11 counts the slot, and the object has a new place (`inv11`): it lies in the reported cell, which by
+-- stage 8 is not the cell of the current place, and no previous place is left. In between the cell is locked, so no other update
+-- has changed the slot or the count.
+-- For a query under way: nothing that lay ahead of it moves. It can meet the new tuple before it is counted, if it noted a higher
+-- count when a tuple that has since been dropped lay there; it is then told the place that the update reports, as later too (`effect11`).
+-- That slots are read downwards makes this harmless: the tuple that lay there, unless it was the erased one, is at a place still to be read.
 use mathlib.Core.Path.{_≡_, refl, sym, ap, _∙_}
 use mathlib.Core.Logic.{_≢_, inl, inr}
 use mathlib.Core.Bool.{false}
@@ -196,7 +203,7 @@ module _ {O : StoreOps} {S : Store O} {g : Ghost} {d : St} (I : Inv S g d) (l : 
             back = back-quiet (SwitchPlace p) l< (λ p′ m′ b′ z. clash (cc)) (I .back);
           }
 
-    -- the slot that comes to life was written by stage 10, at the reported place (layer C's own clause)
+    -- the slot that comes to life was written by stage 10, at the reported place (the clause `Written`)
     effect11 : d .tup (p .bucket) (p .slot) .oid ≡ k → spotOf (d .tup (p .bucket) (p .slot)) ≡ aim (d .lanes l) → g .gh k ≡ plain (d .ent k) → d .ent k .prev ≡ none → d .count (p .bucket) ≡ p .slot → Effect l g d gg after₁₁
     unfolding sel
     effect11 mine sp gk np cn =

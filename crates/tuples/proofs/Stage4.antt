@@ -1,4 +1,13 @@
--- Stage 4: copy the last tuple over the former one.
+-- Stage 4: the last tuple of the cell's first bucket is copied over the previous tuple, which is thereby gone.
+-- Two cases. The last tuple is the previous one itself: nothing is written but what was there, and its place counts from now on as
+-- the second copy (`own-case`). Or it is of another object m (`other-case`): then m has it twice, at its old place and at the one
+-- written over, and the new one becomes m's current or previous place, the old one the second copy, until stage 5 drops it.
+-- Every counted slot is still a place of the object in it: the slot written over changes hands from the update's object to m
+-- (`recolor`), and all others are as they were. Nobody is disturbed: the update has locked the cell, its object and m, so no other
+-- update says anything of them; and m's two signs stay right because a tuple is copied whole, time and place with it.
+-- For a query under way: the copied tuple is read no sooner at its new place than at its old one (`order`), because a chain is
+-- read from its first bucket down and a bucket from its last slot down, and the old place was the last slot of the first bucket.
+-- So what was ahead of the query is ahead still, and only the previous tuple of the update's own object is lost (`Erased`).
 use mathlib.Core.Path.{_≡_, refl, sym, ap, _∙_}
 use mathlib.Core.Logic.{_≢_, _⊎_, inl, inr}
 use mathlib.Core.Bool.{false}
@@ -124,7 +133,7 @@ module _ {O : StoreOps} {S : Store O} {g : Ghost} {d : St} (I : Inv S g d) (l : 
         back = back-quiet (LowerCount p m) l< (λ p′ m′ b′ e. clash (cc)) (I .back);
       }
 
-  -- what layer C has to know
+  -- what freshness has to know of the step
   abbrev G₁ : (ℕ → Pos) → Ghost
   G₁ gh′ = record { own = g .own; height = g .height; gh = gh′ }
 

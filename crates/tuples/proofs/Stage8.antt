@@ -1,4 +1,12 @@
--- Stages 8 and 13: a tuple written over in its place.
+-- Stages 8 and 13: a tuple is written over in its place.
+-- Stage 8 within the current cell gives the current tuple the reported place and a new stamp; stage 13 gives the old tuple the
+-- negative of a new stamp, which deletes it logically. In both the object in the slot stays (`oids`), so that places and owners
+-- stay, and no cell's first bucket looks different to who has locked it (`tops`).
+-- Signs: a drawn stamp is positive and its negative is negative, and the two places of an object lie in different cells, so
+-- writing one cannot change the sign of the other.
+-- For a query under way: the stamp is drawn now and the query's was drawn before, so the flagged tuple has a magnitude above
+-- the query's stamp and is still told to it (`told-flag`). This is where stamping with an earlier time would lose a carrier.
+-- Stage 8 to another cell only locks that cell, or is held.
 use mathlib.Core.Path.{_≡_, refl, sym, ap, _∙_}
 use mathlib.Core.Logic.{_≢_}
 use mathlib.Core.Bool.{Bool, true, false}
