@@ -1,8 +1,9 @@
 -- What a call comes to, over all tables and the lanes L that it works on.
-use mathlib.Core.Bool.{Bool, true, false}
+use mathlib.Core.Bool.{Bool, true, false, _||_}
 use mathlib.Core.Option.{Option, none, some}
 use mathlib.Core.List.{List}
 use Prim.Native.Nat.{ℕ}
+use lib.Dec.{eqb}
 use lib.IntN.{ℤ}
 use Rattle.base.specs.Outcome.{Outcome, corrupt, blocked, done}
 use Rattle.base.specs.Step.{Step}
@@ -49,3 +50,7 @@ nextLanes ls put (some s) = put s
 abbrev pub gridTables : List ℕ → List ℕ → List ℕ → List ℕ → List ℕ → List ℕ → List ℕ → List ℕ → List ℤ → List ℕ → List ℕ → List ℕ → List ℕ → List ℕ → List ℕ → List ℕ → List ℕ → ℕ → Tables
 gridTables first cells count next readers owners xs ys times oids locks current previous pool hits hitxs hitys clock =
     tablesOf first cells count next readers (tuplesOf owners xs ys times) (indexOf oids locks current previous) pool (hitsOf hits hitxs hitys) clock
+
+-- THE NUMBERS OF ACCEPTED CALLS: 0, and of a step also blocked 20, restarted 21, finished 22. Every other number is a refusal.
+abbrev pub acceptedNumber : ℕ → Bool
+acceptedNumber n = eqb n 0 || eqb n 20 || eqb n 21 || eqb n 22

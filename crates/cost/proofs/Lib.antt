@@ -1,4 +1,5 @@
 pub mod Aside
+pub mod CallKinds
 pub mod Chain
 pub mod Claims
 pub mod Collected
@@ -8,7 +9,7 @@ pub mod Live
 pub mod Match
 pub mod Queries
 pub mod Rel
-pub mod Scans
+pub mod Settled
 pub mod Start
 pub mod Started
 pub mod Stepped

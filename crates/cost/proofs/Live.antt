@@ -11,10 +11,10 @@ use lib.Dec.{T}
 use lib.ListN.{length, length-append}
 use Rattle.base.specs.Lists.{In, Once, more, empty}
 use Rattle.layout.specs.Question.{walk, cellsTouched}
-use Rattle.layout.proofs.Walk.{Proper, Ascending, ends, climbs, walk-ascending, walk-length, cells-touched}
+use Rattle.layout.proofs.Walk.{Proper, Ascending, ends, climbs, walk-ascending, walk-length}
 use Rattle.grid.specs.Run.{Grid}
 use Rattle.machine.specs.Sums.{bit, bit-or}
-use Rattle.cost.specs.Account.{Tally, tallyOf, Found, Sweep, total, visits, cellCount, Bounded}
+use Rattle.cost.specs.Account.{Tally, tallyOf, Found, Sweep, total, visits, Bounded}
 use Rattle.cost.proofs.Count.{times, times-once, times-append, Meets, also, meets-more, OneOf3, Within, only, within-other, few-found}
 use Rattle.cost.proofs.Lies.{May}
 use Rattle.cost.proofs.Match.{shift}
@@ -51,11 +51,11 @@ visits-length (f ∷ fs) = length-append (visits fs) (f .cell ∷ []) ∙ omega 
 
 module _ {y : Tally} {ks : List ℕ} {g : Grid} {s : Sweep} (L : Live y ks g s) where
   -- K is the cells entered and those to go
-  cells-all : length (s .entered) + length (y .cells) ≡ cellCount (s .question)
+  cells-all : length (s .entered) + length (y .cells) ≡ cellsTouched (s .question)
   cells-all =
       let n = length-append (visits (s .entered)) (y .cells) in
       let m : length (visits (s .entered) ++ y .cells) ≡ cellsTouched (s .question) = ap length (L .walk) ∙ walk-length (s .question) (L .proper) in
-      omega (arith, visits-length (s .entered), cells-touched (s .question) (L .proper))
+      omega (arith, visits-length (s .entered))
 
   -- no cell is entered twice
   once : (c : ℕ) → times c (visits (s .entered)) ≤ 1
@@ -68,7 +68,7 @@ module _ {y : Tally} {ks : List ℕ} {g : Grid} {s : Sweep} (L : Live y ks g s) 
   total-few h = rw (L .objects) (few-found ks (L .meets) once (λ k. let w = L .three k (h k) in (w .a, w .b, w .c, w .within)))
 
   -- what it has had, and what it still has before it
-  within-bound : ((k : ℕ) → s .updates k ≤ 1) → s .steps + y .rest + length (y .cells) ≤ cellCount (s .question) + 6 * length (s .objects)
+  within-bound : ((k : ℕ) → s .updates k ≤ 1) → s .steps + y .rest + length (y .cells) ≤ cellsTouched (s .question) + 6 * length (s .objects)
   within-bound h = omega (arith, total-few h, cells-all, L .account)
 
   -- one that has something before it has had less
@@ -78,8 +78,8 @@ module _ {y : Tally} {ks : List ℕ} {g : Grid} {s : Sweep} (L : Live y ks g s) 
 -- ---- finished
 
 pub record Closed (s : Sweep) : Type 0 where
-  pub found : s .steps ≡ cellCount (s .question) + total (s .entered)
-  pub each : visits (s .entered) ≡ walk (s .question)
+  pub found : s .finished ≡ true → s .steps ≡ cellsTouched (s .question) + total (s .entered)
+  pub each : s .finished ≡ true → visits (s .entered) ≡ walk (s .question)
   pub bounded : ((k : ℕ) → s .updates k ≤ 1) → Bounded s
 
 append-none : (l : List ℕ) → l ++ [] ≡ l
@@ -90,8 +90,8 @@ pub closes : {y : Tally} {ks : List ℕ} {g : Grid} {s : Sweep} → Live y ks g 
 closes {y} {s = s} L c r f =
     let none : length (y .cells) ≡ 0 = ap length c in
     record {
-      found = omega (arith, cells-all L, L .account);
-      each = sym (append-none (visits (s .entered))) ∙ ap (λ (l : List ℕ). visits (s .entered) ++ l) (sym c) ∙ L .walk;
+      found = λ _. omega (arith, cells-all L, L .account);
+      each = λ _. sym (append-none (visits (s .entered))) ∙ ap (λ (l : List ℕ). visits (s .entered) ++ l) (sym c) ∙ L .walk;
       bounded = λ h. (omega (arith, within-bound L h), λ e. f);
     }
 

@@ -4,9 +4,9 @@ use mathlib.Core.Logic.{_≢_, inl}
 use mathlib.Core.Bool.{Bool, true, false, _&&_}
 use mathlib.Core.Option.{Option, none, some}
 use mathlib.Core.List.{List, [], _∷_}
-use Prim.Native.Nat.{ℕ, _+_, _*_, _<_, _≤_}
+use Prim.Native.Nat.{ℕ, _+_, _*_, _<_}
 use native.Mathlib.Omega.{arith}
-use lib.Dec.{eqb, leb}
+use lib.Dec.{eqb}
 use lib.ListN.{set}
 use lib.Seq.{getD-set-same, getD-set-other}
 use borrow.Author.Tests.{ltb-true, not-true}
@@ -21,7 +21,7 @@ use Rattle.query.specs.declared.Scan.{Scan}
 use Rattle.query.specs.declared.Scan.the-variants.{Idle, Enter, Read, Finished}
 use Rattle.query.specs.declared.Query.{Query}
 use Rattle.tables.specs.Tables.{Tables, withReaders, withHits}
-use Rattle.calls.specs.Call.{Result, refused, answered, after, stepped as steppedCall}
+use Rattle.calls.specs.Call.{Result, refused, answered, after, acceptedNumber, stepped as steppedCall}
 use Rattle.queries.specs.Query.{idleQuery, isIdle as isIdleQuery, isFinished, begun, queryStart, queryStep}
 use Rattle.queries.specs.Scans.{scanOn}
 use Rattle.grid.specs.Run.{Grid, gridOf, Call, startQuery, stepQuery, answerOf, call}
@@ -40,10 +40,11 @@ use Rattle.cost.proofs.Chain.{seenBy}
 use Rattle.cost.proofs.Lies.{may-same}
 use Rattle.cost.proofs.Match.{Match, tally-blocked, Goes, enters, reads, leaves}
 use Rattle.cost.proofs.Rel.{Rel, under-quiet, known-quiet}
-use Rattle.cost.proofs.Scans.{enter-free, enter-blocked, read-flows}
+use Rattle.runs.proofs.Scans.{enter-free, enter-blocked, read-flows}
 use Rattle.cost.proofs.Started.{started}
 use Rattle.cost.proofs.Stepped.{Kind, inside, enters as entering, fits-step, stepped}
-use Rattle.cost.proofs.Updates.{rel-nothing, by-tests}
+use Rattle.cost.proofs.CallKinds.{rel-nothing}
+use Rattle.cost.proofs.Updates.{by-tests}
 use Rattle.cost.proofs.Verdict.{Verdict, no, yes, query-verdict, query-begun, deed-refused, deed-accepted}
 use Rattle.cost.proofs.Claims.{Claim, no-claim}
 
@@ -70,7 +71,7 @@ module _ (e : Event) (past : List Event) (g : Grid) (R : Rel past g) (l : ℕ) (
   apart s = record { step = rw is (and-false (eqb l (s .lane))); going = rw is (and-false (eqb l (s .lane))) }
 
   rel-blocked : Rel (e ∷ past) g
-  rel-blocked = aside e past g g 0 (rw is) apart tally-same R (R .good) (λ j j<. rw (under-quiet e past (rw is) (rw is)) (R .ties j j<)) (λ k t. rw (known-quiet e past (rw is)) (R .knows k t)) (λ k i. rw (known-quiet e past (rw is)) i) (λ k x m. inl m) (R .match) (λ q q< i. refl) (λ q q< i f. refl)
+  rel-blocked = aside e past g g 0 (rw is) (rw is) apart tally-same R (R .good) (λ j j<. rw (under-quiet e past (rw is) (rw is) (rw is)) (R .ties j j<)) (λ k t. rw (known-quiet e past (rw is) (rw is)) (R .knows k t)) (λ k i. rw (known-quiet e past (rw is) (rw is)) i) (λ k x m. inl m) (R .match) (λ q q< i. refl) (λ q q< i f. refl)
 
   blocked-fits : StepFits 20 (e .seen) (tally past l)
   blocked-fits = rw sees (record { answer = ap (λ (p : ℕ × Tally). p .0) (sym stays); blocked = (λ z. (none-left, (c, rest, cells, locked)), λ z. refl) })
@@ -86,7 +87,7 @@ one-step e past l n is F = record {
 }
 
 -- the number of a step that moves is no refusal
-moved-number : (a : Scan) (n : ℕ) → n ≡ scanNumber a → (leb 1 n && leb n 13) ≡ false
+moved-number : (a : Scan) (n : ℕ) → n ≡ scanNumber a → acceptedNumber n ≡ true
 moved-number Idle n e = rw e
 moved-number (Enter c) n e = rw e
 moved-number (Read c w) n e = rw e
@@ -97,7 +98,7 @@ module _ (past : List Event) (g : Grid) (R : Rel past g) where
   t = g .tables
 
   abbrev eventBy : Call → Result (List Query) → Event
-  eventBy c r = record { call = c; answer = answerOf (after t (g .queries) r .number) 0 []; seen = eventOf c g .seen }
+  eventBy c r = record { call = c; answer = answerOf (after t (g .queries) r .number) 0 []; seen = eventOf c g .seen; settles = none }
 
   abbrev gridBy : Result (List Query) → Grid
   gridBy r = gridOf (after t (g .queries) r .tables) (g .updaters) (after t (g .queries) r .lanes)
@@ -105,10 +106,10 @@ module _ (past : List Event) (g : Grid) (R : Rel past g) where
   abbrev Kept : Call → Result (List Query) → Type 0
   Kept c r = Good (gridBy r) → Rel (eventBy c r ∷ past) (gridBy r) × Claim (eventBy c r) past
 
-  refuses : (c : Call) (n : ℕ) → 1 ≤ n → n ≤ 13 → Kept c (refused n)
+  refuses : (c : Call) (n : ℕ) → acceptedNumber n ≡ false → Kept c (refused n)
   unfolding after
-  refuses c n a b G =
-      let is = deed-refused (eventBy c (refused n)) a b in
+  refuses c n a G =
+      let is = deed-refused (eventBy c (refused n)) refl a in
       (rel-nothing (eventBy c (refused n)) past g is R, no-claim (eventBy c (refused n)) past (rw is) (rw is))
 
   -- ---- the start
@@ -116,10 +117,10 @@ module _ (past : List Event) (g : Grid) (R : Rel past g) where
   module _ (l : ℕ) (u : Question) where
     start-by : (r : Result (List Query)) → queryStart t (g .queries) l u ≡ r → Verdict r → Kept (startQuery l u) r
     unfolding after view
-    start-by _ e (no n a b) = refuses (startQuery l u) n a b
+    start-by _ e (no n a) = refuses (startQuery l u) n a
     start-by _ e (yes t′ qs′) = λ G.
         let ev = eventBy (startQuery l u) (answered 0 t′ qs′) in
-        let is = deed-accepted ev 0 refl refl in
+        let is = deed-accepted ev 0 refl refl refl in
         let B = query-begun t (g .queries) l u t′ qs′ e in
         let g′ = gridOf t′ (g .updaters) qs′ in (
           started ev past g g′ l u is (B .lane) R G (B .proper) (t .clock + 1) (B .idle)
@@ -159,7 +160,7 @@ module _ (past : List Event) (g : Grid) (R : Rel past g) where
     moves m Go K L b f = λ G.
         let ev = eventBy (stepQuery l) (answered (m .number) (m .tables) (set (g .queries) l (m .next))) in
         let g′ = scanned g l m in
-        let is : deed ev ≡ deedOf none none none (some (l, m .number)) none = deed-accepted ev (m .number) refl (moved-number (m .next .stage) (m .number) (Go .says)) in
+        let is : deed ev ≡ deedOf none none none (some (l, m .number)) none = deed-accepted ev (m .number) refl refl (moved-number (m .next .stage) (m .number) (Go .says)) in
         let own : query g′ l ≡ m .next = getD-set-same (g .queries) l (m .next) idleQuery (omega (arith, R .good .shape .queries)) in
         let others : (q : ℕ) → q ≢ l → query g′ q ≡ query g q = λ q z. getD-set-other (g .queries) l q (m .next) idleQuery z in
         let may = may-same g g′ refl (L .first) (L .next) (L .count) (L .tuples) in
@@ -174,7 +175,7 @@ module _ (past : List Event) (g : Grid) (R : Rel past g) where
     enter-by c corrupt z e b f M c< = absurd (not-refused _ (enter-never g (R .good) l l< c z) e)
     enter-by c blocked z e b f M c< = λ G.
         let ev = eventBy (stepQuery l) (answered 20 t (g .queries)) in
-        let is : deed ev ≡ deedOf none none none (some (l, 20)) none = deed-accepted ev 20 refl refl in
+        let is : deed ev ≡ deedOf none none none (some (l, 20)) none = deed-accepted ev 20 refl refl refl in
         let lock = enter-blocked t (R .good .shape .lengths) l s c e in
         (rel-blocked ev past g R l is refl c (M .0 .0) (M .0 .2) (M .1) lock, one-step ev past l 20 is (blocked-fits ev past g R l is refl c (M .0 .0) (M .0 .2) (M .1) lock))
     enter-by c (done m) z e b f M c< =
@@ -209,10 +210,10 @@ module _ (past : List Event) (g : Grid) (R : Rel past g) where
     step-by : Kept (stepQuery l) (queryStep t (g .queries) l)
     unfolding queryStep
     step-by =
-        by-tests (Kept (stepQuery l)) _ 12 _ (refuses (stepQuery l) 12 (omega arith) (omega arith)) (λ _.
-        by-tests (Kept (stepQuery l)) _ 1 _ (refuses (stepQuery l) 1 (omega arith) (omega arith)) (λ h.
-        by-tests (Kept (stepQuery l)) _ 3 _ (refuses (stepQuery l) 3 (omega arith) (omega arith)) (λ i.
-        by-tests (Kept (stepQuery l)) _ 9 _ (refuses (stepQuery l) 9 (omega arith) (omega arith)) (λ f.
+        by-tests (Kept (stepQuery l)) _ 12 _ (refuses (stepQuery l) 12 refl) (λ _.
+        by-tests (Kept (stepQuery l)) _ 1 _ (refuses (stepQuery l) 1 refl) (λ h.
+        by-tests (Kept (stepQuery l)) _ 3 _ (refuses (stepQuery l) 3 refl) (λ i.
+        by-tests (Kept (stepQuery l)) _ 9 _ (refuses (stepQuery l) 9 refl) (λ f.
         scan-by l (ltb-true l 4 h) (query g l .stage) refl (not-true _ i) (not-true _ f)))))
 
     pub keep-query-step : Rel (eventOf (stepQuery l) g ∷ past) (call (stepQuery l) g .1) × Claim (eventOf (stepQuery l) g) past

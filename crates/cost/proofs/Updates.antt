@@ -1,12 +1,12 @@
--- The calls of updates keep what ties the past to the grid: a call that comes to nothing, the start of an update, and a step of one.
+-- The calls of updates keep what ties the past to the grid: the start of an update, and a step of one.
 use mathlib.Core.Path.{_≡_, refl, sym, subst, _∙_}
 use mathlib.Core.Logic.{_≢_, _⊎_, inl, inr, ⊎-elim}
-use mathlib.Core.Bool.{Bool, true, false, _&&_}
+use mathlib.Core.Bool.{Bool, true, false}
 use mathlib.Core.Option.{none, some}
 use mathlib.Core.List.{List, [], _∷_}
-use Prim.Native.Nat.{ℕ, suc, _<_, _≤_}
+use Prim.Native.Nat.{ℕ, suc, _<_}
 use native.Mathlib.Omega.{arith}
-use lib.Dec.{T, eqb, leb, eqb-refl, eqb→eq}
+use lib.Dec.{T, eqb, eqb-refl, eqb→eq}
 use lib.Seq.{getD-set-same, getD-set-other}
 use borrow.Author.Tests.{ltb-true, not-true}
 use Rattle.base.specs.Lists.{In, here, there}
@@ -19,7 +19,7 @@ use Rattle.stage.specs.declared.Stage.{Stage}
 use Rattle.stage.specs.declared.Stage.the-variants.{Idle, TakeObject}
 use Rattle.stage.specs.declared.Updater.{Updater}
 use Rattle.tables.specs.Tables.{Tables}
-use Rattle.calls.specs.Call.{Result, refused, answered, after, unless, stepped as steppedCall}
+use Rattle.calls.specs.Call.{Result, refused, answered, after, unless, acceptedNumber, stepped as steppedCall}
 use Rattle.calls.proofs.Moves.{Moves, move-of}
 use Rattle.turns.specs.Stages.{stageOn}
 use Rattle.updates.specs.Update.{idleUpdater, withStage, putStage, updateStart, updateStep}
@@ -36,21 +36,15 @@ use Rattle.runs.proofs.Stages.{Kept, still, on, stage-kept}
 use Rattle.runs.proofs.View.{view, knownF}
 use Rattle.cost.specs.Account.{Event, eventOf, deed, deedOf, when, underWay, among, known, tally}
 use Rattle.cost.proofs.Aside.{new, no-step, no-tally, aside}
+use Rattle.cost.proofs.CallKinds.{rel-nothing}
 use Rattle.cost.proofs.Lies.{May, may-step, may-start}
 use Rattle.cost.proofs.Match.{match-kept}
-use Rattle.cost.proofs.Rel.{busy, Rel, under-quiet, known-quiet}
+use Rattle.cost.proofs.Rel.{busy, Rel, known-quiet}
 use Rattle.cost.proofs.Verdict.{Verdict, no, yes, update-verdict, UpdateBegun, update-begun, deed-refused, deed-accepted}
-
--- ---- a call that comes to nothing
-
-module _ (e : Event) (past : List Event) (g : Grid) (is : deed e ≡ deedOf none none none none none) (R : Rel past g) where
-  pub rel-nothing : Rel (e ∷ past) g
-  rel-nothing = aside e past g g 0 (rw is) (no-step e past g g (rw is)) (no-tally e past g g (rw is) (rw is)) R (R .good)
-      (λ l l<. rw (under-quiet e past (rw is) (rw is)) (R .ties l l<)) (λ k t. rw (known-quiet e past (rw is)) (R .knows k t)) (λ k i. rw (known-quiet e past (rw is)) i) (λ k x m. inl m) (R .match) (λ q q< i. refl) (λ q q< i f. refl)
 
 -- ---- known objects
 
-among-in : (k : ℕ) (ks : List ℕ) → among k ks ≡ true → In k ks
+pub among-in : (k : ℕ) (ks : List ℕ) → among k ks ≡ true → In k ks
 unfolding among pick
 among-in k [] e = clash (cc)
 among-in k (j ∷ js) e = go (eqb j k) refl e (λ z. among-in k js z)
@@ -60,12 +54,12 @@ among-in k (j ∷ js) e = go (eqb j k) refl e (λ z. among-in k js z)
     go false z w f = there (f w)
 
 -- one more, if it is not there
-in-old : (k j : ℕ) (ks : List ℕ) (b : Bool) → In j ks → In j (pick b ks (k ∷ ks))
+pub in-old : (k j : ℕ) (ks : List ℕ) (b : Bool) → In j ks → In j (pick b ks (k ∷ ks))
 unfolding pick
 in-old k j ks true i = i
 in-old k j ks false i = there i
 
-in-new : (k : ℕ) (ks : List ℕ) (b : Bool) → among k ks ≡ b → In k (pick b ks (k ∷ ks))
+pub in-new : (k : ℕ) (ks : List ℕ) (b : Bool) → among k ks ≡ b → In k (pick b ks (k ∷ ks))
 unfolding pick
 in-new k ks true e = among-in k ks e
 in-new k ks false e = here
@@ -114,7 +108,7 @@ module _ (past : List Event) (g : Grid) (R : Rel past g) (l k x y : ℕ) (e : Ev
       (may-start g us′ t′ l u (B .updaters) (B .lane) (R .good) (rw (B .tables)) (rw (B .tables)) (rw (B .tables)) (rw (B .tables)) j c m)
 
   pub update-starts : Rel (e ∷ past) g′
-  update-starts = aside e past g g′ (cellOf x y) (rw is) (no-step e past g g′ (rw is)) (no-tally e past g g′ (rw is) (rw is)) R G′ ties knows wider may
+  update-starts = aside e past g g′ (cellOf x y) (rw is) (rw is) (no-step e past g g′ (rw is)) (no-tally e past g g′ (rw is) (rw is) (rw is)) R G′ ties knows wider may
       (λ q q<. rw (B .tables) (R .match q q<)) (λ q q< i. refl) (λ q q< i f. refl)
 
 -- ---- a step of an update
@@ -147,8 +141,8 @@ module _ (past : List Event) (g : Grid) (R : Rel past g) (l : ℕ) (l< : l < 8) 
   knows-same = known-same (g .tables .index) (m .tables .index) (parts .oids)
 
   pub update-steps : Rel (e ∷ past) g₁
-  update-steps = aside e past g g₁ 0 (rw is) (no-step e past g g₁ (rw is)) (no-tally e past g g₁ (rw is) (rw is)) R G′ step-ties
-      (λ k t. rw (known-quiet e past (rw is)) (R .knows k (subst (λ (f : ℕ → Bool). T (f k)) knows-same t))) (λ k i. rw (known-quiet e past (rw is)) i) (λ k c w. inl (may k c w))
+  update-steps = aside e past g g₁ 0 (rw is) (rw is) (no-step e past g g₁ (rw is)) (no-tally e past g g₁ (rw is) (rw is) (rw is)) R G′ step-ties
+      (λ k t. rw (known-quiet e past (rw is) (rw is)) (R .knows k (subst (λ (f : ℕ → Bool). T (f k)) knows-same t))) (λ k i. rw (known-quiet e past (rw is) (rw is)) i) (λ k c w. inl (may k c w))
       (λ q q<. match-kept (at (g .tables .next)) (at (m .tables .next)) (query g q) (query g q .stage) (tally past q)
       (λ c b r h z d. below-stays g (R .good) (m .tables) (putStage (g .updaters) l (m .next)) parts q q< c b r h z d) (R .match q q<))
       (λ q q< i. refl) (λ q q< i f. refl)
@@ -167,23 +161,23 @@ module _ (past : List Event) (g : Grid) (R : Rel past g) where
 
   -- what a call of updates leaves, by what it comes to
   abbrev eventBy : Call → Result (List Updater) → Event
-  eventBy c r = record { call = c; answer = answerOf (after t (g .updaters) r .number) 0 []; seen = eventOf c g .seen }
+  eventBy c r = record { call = c; answer = answerOf (after t (g .updaters) r .number) 0 []; seen = eventOf c g .seen; settles = none }
 
   abbrev gridBy : Result (List Updater) → Grid
   gridBy r = gridOf (after t (g .updaters) r .tables) (after t (g .updaters) r .lanes) (g .queries)
 
   -- refused
-  refuses : (c : Call) (n : ℕ) → 1 ≤ n → n ≤ 13 → Rel (eventBy c (refused n) ∷ past) (gridBy (refused n))
+  refuses : (c : Call) (n : ℕ) → acceptedNumber n ≡ false → Rel (eventBy c (refused n) ∷ past) (gridBy (refused n))
   unfolding after
-  refuses c n a b = rel-nothing (eventBy c (refused n)) past g (deed-refused (eventBy c (refused n)) a b) R
+  refuses c n a = rel-nothing (eventBy c (refused n)) past g (deed-refused (eventBy c (refused n)) refl a) R
 
   module _ (l k x y : ℕ) where
     start-by : (r : Result (List Updater)) → updateStart t (g .updaters) l k x y ≡ r → Good (gridBy r) → Verdict r → Rel (eventBy (startUpdate l k x y) r ∷ past) (gridBy r)
     unfolding after
-    start-by _ e G (no n a b) = refuses (startUpdate l k x y) n a b
+    start-by _ e G (no n a) = refuses (startUpdate l k x y) n a
     start-by _ e G (yes t′ us′) =
         let ev = eventBy (startUpdate l k x y) (answered 0 t′ us′) in
-        update-starts past g R l k x y ev t′ us′ (deed-accepted ev 0 refl refl) (update-begun t (g .updaters) l k x y t′ us′ e) G
+        update-starts past g R l k x y ev t′ us′ (deed-accepted ev 0 refl refl refl) (update-begun t (g .updaters) l k x y t′ us′ e) G
 
     pub keep-update-start : Rel (eventOf (startUpdate l k x y) g ∷ past) (call (startUpdate l k x y) g .1)
     unfolding call
@@ -197,7 +191,7 @@ module _ (past : List Event) (g : Grid) (R : Rel past g) where
     Stepped r = Good (gridBy r) → Rel (eventBy (stepUpdate l) r ∷ past) (gridBy r)
 
     -- a number that is no refusal
-    accepts : (n : ℕ) (s : Stage) → Moved n s → (leb 1 n && leb n 13) ≡ false
+    accepts : (n : ℕ) (s : Stage) → Moved n s → acceptedNumber n ≡ true
     accepts n s (advanced i) = refl
     accepts n s (back i) = refl
     accepts n s end = refl
@@ -209,18 +203,18 @@ module _ (past : List Event) (g : Grid) (R : Rel past g) where
     by-kept : (l< : l < 8) → isIdle (u₀ .stage) ≡ false → u₀ .stage ≢ Idle → (o : Outcome (Move Tables)) → stageOn t (suc l) u₀ (u₀ .stage) ≡ o → Kept g (R .good .shape) (R .good .ghost) (R .good .inv) l l< o
         → Moves Moved o → Stepped (steppedCall t (g .updaters) (putStage (g .updaters) l) o)
     unfolding after steppedCall
-    by-kept l< was n blocked e still w = λ G. let ev = eventBy (stepUpdate l) (answered 20 t (g .updaters)) in rel-nothing ev past g (blocked-nothing ev (deed-accepted ev 20 refl refl)) R
+    by-kept l< was n blocked e still w = λ G. let ev = eventBy (stepUpdate l) (answered 20 t (g .updaters)) in rel-nothing ev past g (blocked-nothing ev (deed-accepted ev 20 refl refl refl)) R
     by-kept l< was n (done m) e (on _ gh z I E) w = λ G.
         let ev = eventBy (stepUpdate l) (answered (m .number) (m .tables) (putStage (g .updaters) l (m .next))) in
         let p = move-of w in
-        update-steps past g R l l< ev m (deed-accepted ev (m .number) refl (accepts (m .number) (m .next) p)) e was (moved-end p) G (may-step g (R .good) l l< n m gh I E)
+        update-steps past g R l l< ev m (deed-accepted ev (m .number) refl refl (accepts (m .number) (m .next) p)) e was (moved-end p) G (may-step g (R .good) l l< n m gh I E)
 
     step-by : Stepped (updateStep t (g .updaters) l)
     unfolding updateStep
     step-by =
-        by-tests Stepped _ 12 _ (λ G. refuses (stepUpdate l) 12 (omega arith) (omega arith)) (λ _.
-        by-tests Stepped _ 1 _ (λ G. refuses (stepUpdate l) 1 (omega arith) (omega arith)) (λ h.
-        by-tests Stepped _ 3 _ (λ G. refuses (stepUpdate l) 3 (omega arith) (omega arith)) (λ i.
+        by-tests Stepped _ 12 _ (λ G. refuses (stepUpdate l) 12 refl) (λ _.
+        by-tests Stepped _ 1 _ (λ G. refuses (stepUpdate l) 1 refl) (λ h.
+        by-tests Stepped _ 3 _ (λ G. refuses (stepUpdate l) 3 refl) (λ i.
         let l< = ltb-true l 8 h in
         let was : isIdle (u₀ .stage) ≡ false = not-true _ i in
         let n = not-idle (u₀ .stage) was in

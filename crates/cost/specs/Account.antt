@@ -5,16 +5,17 @@ use mathlib.Core.Logic.{_≢_}
 use mathlib.Core.Bool.{Bool, true, false, not, _&&_}
 use mathlib.Core.Option.{Option, none, some}
 use mathlib.Core.List.{List, [], _∷_, _++_, map}
-use Prim.Native.Nat.{ℕ, zero, suc, _+_, _-_, _*_, _/_, _≤_}
-use lib.Dec.{eqb, leb}
+use Prim.Native.Nat.{ℕ, zero, suc, _+_, _*_, _≤_}
+use lib.Dec.{eqb}
 use lib.ListN.{length}
 use Rattle.base.specs.Outcome.{pick}
 use Rattle.base.specs.Table.{at, upd}
-use Rattle.layout.specs.Question.{walk}
+use Rattle.layout.specs.Question.{walk, cellsTouched}
 use Rattle.layout.specs.declared.question.Question.{Question}
 use Rattle.cells.specs.Walk.{chainOf, tuplesIn}
+use Rattle.calls.specs.Call.{acceptedNumber}
 use Rattle.machine.specs.Sums.{bit, count}
-use Rattle.grid.specs.Run.{Grid, Call, startUpdate, stepUpdate, startQuery, stepQuery, collect, Answer, call, emptyGrid}
+use Rattle.grid.specs.Run.{Grid, Call, startUpdate, stepUpdate, startQuery, stepQuery, collect, Answer, answerOf, call, emptyGrid}
 
 -- ---- WHAT HAPPENED
 -- the tables of cells, locks and buckets: first bucket and lock of each cell, count and next bucket of each bucket
@@ -24,14 +25,26 @@ pub record Seen : Type 0 where
   pub count : List ℕ
   pub next : List ℕ
 
--- a call, its answer, and those tables as it found them
+-- a call, its answer, and those tables as it found them; and, where it settled everything, the objects that are known then
 pub record Event : Type 0 where
   pub call : Call
   pub answer : Answer
   pub seen : Seen
+  pub settles : Option (List ℕ)
 
+-- no call of today settles anything
 abbrev pub eventOf : Call → Grid → Event
-eventOf c g = record { call = c; answer = call c g .0; seen = record { first = g .tables .first; locks = g .tables .cells; count = g .tables .count; next = g .tables .next } }
+eventOf c g = record {
+  call = c;
+  answer = call c g .0;
+  seen = record { first = g .tables .first; locks = g .tables .cells; count = g .tables .count; next = g .tables .next };
+  settles = none;
+}
+
+-- What came before a list that is made on another grid than the empty one, at rest: these objects are known, and nothing is
+-- under way. Neither its call nor its answer is looked at.
+abbrev pub settled : List ℕ → Event
+settled ks = record { call = collect 0 0; answer = answerOf 0 0 []; seen = record { first = []; locks = []; count = []; next = [] }; settles = some ks }
 
 -- what happened when calls were made on a grid, each on the grid as the last one left it; the last call comes first
 unfoldable pub history : List Call → Grid → List Event → List Event
@@ -45,9 +58,14 @@ pub record Deed : Type 0 where
   pub asks : Option (ℕ × Question)
   pub goes : Option (ℕ × ℕ)
   pub collects : Option ℕ
+  pub settles : Option (List ℕ)
 
 abbrev pub deedOf : Option (ℕ × ℕ) → Option ℕ → Option (ℕ × Question) → Option (ℕ × ℕ) → Option ℕ → Deed
-deedOf b e a g c = record { begins = b; ends = e; asks = a; goes = g; collects = c }
+deedOf b e a g c = record { begins = b; ends = e; asks = a; goes = g; collects = c; settles = none }
+
+-- everything is settled: every update under way has ended, every query is abandoned, and the objects of the list are known
+abbrev pub settledDeed : List ℕ → Deed
+settledDeed ks = record { begins = none; ends = none; asks = none; goes = none; collects = none; settles = some ks }
 
 -- an update ends with the step that gives 22
 abbrev pub accepted : Call → ℕ → Deed
@@ -57,19 +75,24 @@ accepted (startQuery l u) n = deedOf none none (some (l, u)) none none
 accepted (stepQuery l) n = deedOf none none none (some (l, n)) none
 accepted (collect l m) n = deedOf none none none none (some l)
 
--- a refused call, whose number is from 1 to 13, comes to nothing
-unfoldable pub deed : Event → Deed
-deed e = let n = e .answer .number in pick (leb 1 n && leb n 13) (deedOf none none none none none) (accepted (e .call) n)
-
 -- f of what is there, or else x
 unfoldable pub when : {A B : Type 0} → Option A → (A → B) → B → B
 when none f x = x
 when (some a) f x = f a
 
+-- a refused call comes to nothing
+unfoldable pub deed : Event → Deed
+deed e =
+    let n = e .answer .number in
+    when (e .settles) settledDeed (pick (acceptedNumber n) (accepted (e .call) n) (deedOf none none none none none))
+
 -- the object whose update is under way in each lane
 unfoldable pub underWay : List Event → ℕ → Option ℕ
 underWay [] = λ l. none
-underWay (e ∷ past) = let f = underWay past in when (deed e .begins) (λ b. upd f (b .0) (some (b .1))) (when (deed e .ends) (λ l. upd f l none) f)
+underWay (e ∷ past) =
+    let f = underWay past in
+    when (deed e .settles) (λ _ l. none)
+    (when (deed e .begins) (λ b. upd f (b .0) (some (b .1))) (when (deed e .ends) (λ l. upd f l none) f))
 
 -- the objects known, each once, from the first accepted start of an update
 unfoldable pub among : ℕ → List ℕ → Bool
@@ -78,7 +101,10 @@ among k (j ∷ js) = pick (eqb j k) true (among k js)
 
 unfoldable pub known : List Event → List ℕ
 known [] = []
-known (e ∷ past) = let ks = known past in when (deed e .begins) (λ b. pick (among (b .1) ks) ks (b .1 ∷ ks)) ks
+known (e ∷ past) =
+    let ks = known past in
+    when (deed e .settles) (λ kept. kept)
+    (when (deed e .begins) (λ b. pick (among (b .1) ks) ks (b .1 ∷ ks)) ks)
 
 -- ---- THE TALLY of a query lane: the cells still to enter, the rest, the count
 pub record Tally : Type 0 where
@@ -113,16 +139,21 @@ stepOf s t = tallyStep s (t .cells) (t .rest) (t .count)
 
 unfoldable pub tally : List Event → ℕ → Tally
 tally [] = λ l. tallyOf [] 0 0
-tally (e ∷ past) = let f = tally past in when (deed e .asks) (λ a. upd f (a .0) (tallyOf (walk (a .1)) 0 0)) (when (deed e .goes) (λ a. upd f (a .0) (stepOf (e .seen) (f (a .0)) .1)) f)
+tally (e ∷ past) =
+    let f = tally past in
+    when (deed e .settles) (λ _ l. tallyOf [] 0 0)
+    (when (deed e .asks) (λ a. upd f (a .0) (tallyOf (walk (a .1)) 0 0))
+    (when (deed e .goes) (λ a. upd f (a .0) (stepOf (e .seen) (f (a .0)) .1)) f))
 
--- ---- THE QUERIES OF A LIST, those collected long ago too. A finished one stays as it was when it finished.
--- steps: accepted and not blocked; finished: one gave 22; entered: its cells, the last one first, with what was found there at the step that entered them;
+-- ---- THE QUERIES OF A LIST, those collected long ago too. One that is over stays as it was then.
+-- steps: accepted and not blocked; finished: one gave 22; over: finished, or abandoned because everything was settled; entered: its cells, the last one first, with what was found there at the step that entered them;
 -- updates: of each object, how many were under way at some time of it; objects: those known
 pub record Sweep : Type 0 where
   pub lane : ℕ
   pub question : Question
   pub steps : ℕ
   pub finished : Bool
+  pub over : Bool
   pub entered : List Found
   pub updates : ℕ → ℕ
   pub objects : List ℕ
@@ -132,12 +163,13 @@ abbrev pub follow : Event → List Event → Sweep → Sweep
 follow e past s =
     let t = tally past (s .lane) in
     let step : Bool = when (deed e .goes) (λ a. eqb (a .0) (s .lane) && not (eqb (a .1) 20)) false in
-    pick (s .finished) s
+    pick (s .over) s
     (record {
       lane = s .lane;
       question = s .question;
       steps = s .steps + bit step;
       finished = when (deed e .goes) (λ a. eqb (a .0) (s .lane) && eqb (a .1) 22) false;
+      over = when (deed e .goes) (λ a. eqb (a .0) (s .lane) && eqb (a .1) 22) false;
       entered = pick (step && eqb (t .rest) 0) (found (e .seen) (at (t .cells) 0) ∷ s .entered) (s .entered);
       updates = λ k. s .updates k + bit (when (deed e .begins) (λ b. eqb (b .1) k) false);
       objects = known (e ∷ past);
@@ -145,21 +177,35 @@ follow e past s =
 
 -- at its start: the updates under way count
 abbrev pub opened : ℕ → Question → List Event → Sweep
-opened l u past = record { lane = l; question = u; steps = 0; finished = false; entered = []; updates = λ k. count 8 (λ j. when (underWay past j) (λ i. eqb i k) false); objects = known past }
+opened l u past = record { lane = l; question = u; steps = 0; finished = false; over = false; entered = []; updates = λ k. count 8 (λ j. when (underWay past j) (λ i. eqb i k) false); objects = known past }
+
+-- one that is not over is abandoned: it stays as it was
+abbrev pub abandon : Sweep → Sweep
+abandon s = pick (s .over) s (record {
+  lane = s .lane;
+  question = s .question;
+  steps = s .steps;
+  finished = s .finished;
+  over = true;
+  entered = s .entered;
+  updates = s .updates;
+  objects = s .objects;
+})
 
 unfoldable pub sweeps : List Event → List Sweep
 sweeps [] = []
-sweeps (e ∷ past) = let ss = map (follow e past) (sweeps past) in when (deed e .asks) (λ a. opened (a .0) (a .1) past ∷ ss) ss
+sweeps (e ∷ past) =
+    let ss = map (follow e past) (sweeps past) in
+    when (deed e .settles) (λ _. map abandon (sweeps past))
+    (when (deed e .asks) (λ a. opened (a .0) (a .1) past ∷ ss) ss)
 
 unfoldable pub latest : ℕ → List Sweep → Option Sweep
 latest q [] = none
 latest q (s ∷ ss) = pick (eqb (s .lane) q) (some s) (latest q ss)
 
 -- ---- THE CLAIMS
--- document 01's K; what was found in all cells, together; the cells in the order in which they were entered
-abbrev pub cellCount : Question → ℕ
-cellCount u = (u .x1 / 1024 - u .x0 / 1024 + 1) * (u .y1 / 1024 - u .y0 / 1024 + 1)
-
+-- K is `cellsTouched`, which is the length of the walk (`walk-length` in layout/proofs/Walk.antt).
+-- what was found in all cells, together; the cells in the order in which they were entered
 unfoldable pub total : List Found → ℕ
 total [] = 0
 total (f ∷ fs) = f .buckets + f .tuples + total fs
@@ -177,22 +223,34 @@ pub record StepFits (n : ℕ) (s : Seen) (t : Tally) : Type 0 where
   pub answer : n ≡ stepOf s t .0
   pub blocked : (n ≡ 20 → AtLocked s t) × (AtLocked s t → n ≡ 20)
 
--- 2. An accepted collection hands back the tally's count, which is the number of the query's accepted steps that were not blocked; and it is K and, for each of its
--- cells, the buckets and tuples found at the step that entered it.
+-- 2. An accepted collection is from a query that has finished, the last one of its lane. It hands back the tally's count, which is the number of the query's accepted
+-- steps that were not blocked; and it is K and, for each of its cells, the buckets and tuples found at the step that entered it.
 pub record Counted (l n : ℕ) (past : List Event) : Type 0 where
   pub tally : n ≡ tally past l .count
   pub query : Sweep
   pub last : latest l (sweeps past) ≡ some query
+  pub finished : query .finished ≡ true
   pub steps : n ≡ query .steps
-  pub found : n ≡ cellCount (query .question) + total (query .entered)
+  pub found : n ≡ cellsTouched (query .question) + total (query .entered)
   pub each : visits (query .entered) ≡ walk (query .question)
 
 -- 3. A query has had at most K + 6 × N such steps, and if it has had that many it is finished.
 abbrev pub Bounded : Sweep → Type 0
-Bounded s = let most = cellCount (s .question) + 6 * length (s .objects) in (s .steps ≤ most) × (s .steps ≡ most → s .finished ≡ true)
+Bounded s = let most = cellsTouched (s .question) + 6 * length (s .objects) in (s .steps ≤ most) × (s .steps ≡ most → s .finished ≡ true)
 
--- THE CLAIM about a list of calls: 1 and 2 of each call in it, whatever came before and after; 3, after the list, of each query with at most one update of each object in the whole of it
-pub record Accounted (cs : List Call) : Type 0 where
-  pub steps : (after before : List Event) (e : Event) (l n : ℕ) → history cs emptyGrid [] ≡ after ++ e ∷ before → deed e .goes ≡ some (l, n) → StepFits n (e .seen) (tally before l)
-  pub collections : (after before : List Event) (e : Event) (l : ℕ) → history cs emptyGrid [] ≡ after ++ e ∷ before → deed e .collects ≡ some l → Counted l (e .answer .steps) before
-  pub queries : (ss ts : List Sweep) (s : Sweep) → sweeps (history cs emptyGrid []) ≡ ss ++ s ∷ ts → ((k : ℕ) → s .updates k ≤ 1) → Bounded s
+-- The claim about what happened: 1 and 2 of each event, whatever came before and after; 3, after all, of each query with at most
+-- one update of each object in the whole of it
+pub record AccountedOf (all : List Event) : Type 0 where
+  pub steps : (after before : List Event) (e : Event) (l n : ℕ) → all ≡ after ++ e ∷ before → deed e .goes ≡ some (l, n)
+      → StepFits n (e .seen) (tally before l)
+  pub collections : (after before : List Event) (e : Event) (l : ℕ) → all ≡ after ++ e ∷ before → deed e .collects ≡ some l
+      → Counted l (e .answer .steps) before
+  pub queries : (ss ts : List Sweep) (s : Sweep) → sweeps all ≡ ss ++ s ∷ ts → ((k : ℕ) → s .updates k ≤ 1) → Bounded s
+
+-- THE CLAIM about a list of calls, made from the empty grid
+abbrev pub Accounted : List Call → Type 0
+Accounted cs = AccountedOf (history cs emptyGrid [])
+
+-- and about a list made on grid g, at rest, with these objects known
+abbrev pub AccountedFrom : Grid → List ℕ → List Call → Type 0
+AccountedFrom g ks cs = AccountedOf (history cs g (settled ks ∷ []))

@@ -38,10 +38,10 @@ use Rattle.queries.specs.Query.{queryStart, queryStep, idleQueries, isFinished,
 use Rattle.collect.specs.Collect.{collectQuery, entriesFrom}
 use Rattle.grid.specs.Run.{Grid, emptyGrid, Call, startUpdate, stepUpdate, startQuery, stepQuery, collect, Answer, call, run, answers}
 use Rattle.base.specs.Table.{upd}
-use Rattle.layout.specs.Question.{walk, rowsFrom, columns, rows}
+use Rattle.layout.specs.Question.{walk, rowsFrom, columns, rows, cellsTouched}
 use Rattle.cells.specs.Walk.{chainOf, bucketsFrom, inFront, tuplesIn}
 use Rattle.machine.specs.Sums.{sum, bit}
-use Rattle.cost.specs.Account.{Event, history, deed, when, underWay, among, known as knownOf, tally, tallyStep, stepOf, Sweep, sweeps as queriesOf, latest, total, cellCount}
+use Rattle.cost.specs.Account.{Event, history, deed, when, underWay, among, known as knownOf, tally, tallyStep, stepOf, Sweep, sweeps as queriesOf, latest, total}
 
 pub record Row : Type 0 where
   pub gives : List ℕ
@@ -89,7 +89,7 @@ collected cs = let a = call (collect 0 768) (run cs emptyGrid) .0 in a .number �
 -- the account of the last query of lane 0 after the calls: its steps, K, N, whether it has finished, what was found in its cells, and the tally's count
 accountBy : Option Sweep → ℕ → List ℕ
 accountBy none n = []
-accountBy (some q) n = q .steps ∷ cellCount (q .question) ∷ length (q .objects) ∷ bit (q .finished) ∷ total (q .entered) ∷ n ∷ []
+accountBy (some q) n = q .steps ∷ cellsTouched (q .question) ∷ length (q .objects) ∷ bit (q .finished) ∷ total (q .entered) ∷ n ∷ []
 
 account : List Call → List ℕ
 account cs = let past = history cs emptyGrid [] in accountBy (latest 0 (queriesOf past)) (tally past 0 .count)
@@ -122,8 +122,53 @@ stages : Grid → List Call → List ℕ
 stages g [] = []
 stages g (k ∷ ks) = let h = call k g .1 in stageNo (getD (h .updaters) 0 idleUpdater .stage) ∷ stages h ks
 
-pub table : List Row
-table =
+-- how many updates of object k there were during the last query of lane 0
+duringBy : Option Sweep → ℕ → List ℕ
+duringBy none k = []
+duringBy (some q) k = one (q .updates k)
+
+during : List Call → ℕ → List ℕ
+during cs k = duringBy (latest 0 (queriesOf (history cs emptyGrid []))) k
+
+-- carrier 7 is reported once, at (100, 100)
+abbrev seven : List Call
+seven = start 0 7 100 100 ∷ steps 0 7
+
+-- Carrier 9 was at (100, 100) and stands at (1100, 100). A sweep of cells 0 to 2 finishes cells 0 and 1; 9 goes to
+-- (2100, 100); the sweep goes on: 8 steps, and 9.
+abbrev eight : List Call
+eight =
+    (start 0 9 100 100 ∷ steps 0 7) ++ (start 0 9 1100 100 ∷ steps 0 8) ++ (sweep 0 0 0 3071 100 ∷ sweeps 0 6)
+    ++ (start 0 9 2100 100 ∷ steps 0 14) ++ sweeps 0 2
+
+abbrev nine : List Call
+nine = eight ++ stepQuery 0 ∷ []
+
+-- The same with a sweep of cells 0 to 3, which finishes cell 2 too; 9 goes to (3100, 100): 12 steps.
+abbrev twelve : List Call
+twelve =
+    (start 0 9 100 100 ∷ steps 0 7) ++ (start 0 9 1100 100 ∷ steps 0 8) ++ (sweep 0 0 0 4095 100 ∷ sweeps 0 6)
+    ++ (start 0 9 2100 100 ∷ steps 0 14) ++ sweeps 0 3 ++ (start 0 9 3100 100 ∷ steps 0 14) ++ sweeps 0 3
+
+-- Carrier 9 stands at (2100, 100). A sweep of cells 0 to 2 finishes cells 0 and 1; 9 goes to (100, 100) and then to
+-- (1100, 100).
+abbrev lost : List Call
+lost =
+    (start 0 9 2100 100 ∷ steps 0 7) ++ (sweep 0 0 0 3071 100 ∷ sweeps 0 2) ++ (start 0 9 100 100 ∷ steps 0 8)
+    ++ (start 0 9 1100 100 ∷ steps 0 14) ++ sweeps 0 1
+
+-- A sweep, collected, and another one of its lane, which is blocked at the cell that a report has locked; a step of
+-- lane 4 is refused.
+abbrev again : List Call
+again =
+    seven ++ (sweep 0 0 0 1023 1023 ∷ sweeps 0 3)
+    ++ collect 0 768 ∷ start 0 8 200 200 ∷ step 0 ∷ step 0 ∷ sweep 0 0 0 1023 1023 ∷ stepQuery 0 ∷ stepQuery 4 ∷ []
+
+-- ---- the rows, in parts that are computed one by one
+
+-- numbers of places and entries, and coordinates at the edge
+unfoldable numberRows : List Row
+numberRows =
     -- where the search starts for carrier 1, 2 and 4,294,967,295
     row (one (hash 1)) (one 316)
     ∷ row (one (hash 2)) (one 120)
@@ -137,40 +182,80 @@ table =
     -- a rectangle of one point is accepted; lower x one above upper gives 6
     ∷ row (one (cornersNumber 100 100 100 100)) (one 0)
     ∷ row (one (cornersNumber 101 100 100 100)) (one 6)
+    -- a report and a sweep at coordinate 16,383 are accepted; 16,384 gives 5, in x and in y, at either corner
+    ∷ row (numbers emptyGrid (start 0 7 16383 16383 ∷ start 1 8 16384 0 ∷ start 1 8 0 16384 ∷ [])) (0 ∷ 5 ∷ 5 ∷ [])
+    ∷ row (numbers emptyGrid (sweep 0 16383 16383 16383 16383 ∷ sweep 1 0 0 16384 0 ∷ sweep 1 0 0 0 16384 ∷ []))
+    (0 ∷ 5 ∷ 5 ∷ [])
+    ∷ row (numbers emptyGrid (sweep 0 16384 0 16384 0 ∷ sweep 0 0 16384 0 16384 ∷ [])) (5 ∷ 5 ∷ [])
+    -- and a carrier reported there is listed there
+    ∷ row (collected ((start 0 7 16383 16383 ∷ steps 0 7) ++ sweep 0 16383 16383 16383 16383 ∷ sweeps 0 3))
+    (0 ∷ 3 ∷ 7 ∷ 16383 ∷ 16383 ∷ [])
+    ∷ []
+
+-- reports
+unfoldable reportRows : List Row
+reportRows =
     -- first report: 7 steps
-    ∷ row (numbers emptyGrid (start 0 7 100 100 ∷ steps 0 7)) (0 ∷ 0 ∷ 0 ∷ 0 ∷ 0 ∷ 0 ∷ 0 ∷ 22 ∷ [])
+    row (numbers emptyGrid (start 0 7 100 100 ∷ steps 0 7)) (0 ∷ 0 ∷ 0 ∷ 0 ∷ 0 ∷ 0 ∷ 0 ∷ 22 ∷ [])
     -- within the cell: 3
-    ∷ row (drop 8 (numbers emptyGrid ((start 0 7 100 100 ∷ steps 0 7) ++ start 0 7 200 200 ∷ steps 0 3))) (0 ∷ 0 ∷ 0 ∷ 22 ∷ [])
+    ∷ row (drop 8 (numbers emptyGrid (seven ++ start 0 7 200 200 ∷ steps 0 3))) (0 ∷ 0 ∷ 0 ∷ 22 ∷ [])
     -- to another cell with no former place: 8
-    ∷ row (drop 8 (numbers emptyGrid ((start 0 7 100 100 ∷ steps 0 7) ++ start 0 7 2000 100 ∷ steps 0 8))) (0 ∷ 0 ∷ 0 ∷ 0 ∷ 0 ∷ 0 ∷ 0 ∷ 0 ∷ 22 ∷ [])
+    ∷ row (drop 8 (numbers emptyGrid (seven ++ start 0 7 2000 100 ∷ steps 0 8)))
+    (0 ∷ 0 ∷ 0 ∷ 0 ∷ 0 ∷ 0 ∷ 0 ∷ 0 ∷ 22 ∷ [])
     -- a former tuple alone in its cell: stage 3 goes on, stage 5 unlinks, so every stage is passed
-    ∷ row (drop 17 (stages emptyGrid ((start 0 7 100 100 ∷ steps 0 7) ++ (start 0 7 2000 100 ∷ steps 0 8) ++ start 0 7 4000 100 ∷ steps 0 14)))
+    ∷ row (drop 17 (stages emptyGrid (seven ++ (start 0 7 2000 100 ∷ steps 0 8) ++ start 0 7 4000 100 ∷ steps 0 14)))
     (1 ∷ 2 ∷ 3 ∷ 4 ∷ 5 ∷ 6 ∷ 7 ∷ 8 ∷ 9 ∷ 10 ∷ 11 ∷ 12 ∷ 13 ∷ 14 ∷ 0 ∷ [])
     -- two lanes report one carrier: the second is held at stage 1
     ∷ row (numbers emptyGrid (start 0 7 100 100 ∷ step 0 ∷ start 1 7 300 300 ∷ step 1 ∷ [])) (0 ∷ 0 ∷ 0 ∷ 20 ∷ [])
+    ∷ []
+
+-- sweeps and their lists
+unfoldable sweepRows : List Row
+sweepRows =
     -- a rectangle of one point is accepted, and a carrier on it is listed; lower x one above upper gives 6
-    ∷ row (drop 8 (numbers emptyGrid ((start 0 7 100 100 ∷ steps 0 7) ++ sweep 0 100 100 100 100 ∷ sweep 1 101 100 100 100 ∷ []))) (0 ∷ 6 ∷ [])
-    ∷ row (collected ((start 0 7 100 100 ∷ steps 0 7) ++ sweep 0 100 100 100 100 ∷ sweeps 0 3)) (0 ∷ 3 ∷ 7 ∷ 100 ∷ 100 ∷ [])
+    row (drop 8 (numbers emptyGrid (seven ++ sweep 0 100 100 100 100 ∷ sweep 1 101 100 100 100 ∷ []))) (0 ∷ 6 ∷ [])
+    ∷ row (collected (seven ++ sweep 0 100 100 100 100 ∷ sweeps 0 3)) (0 ∷ 3 ∷ 7 ∷ 100 ∷ 100 ∷ [])
     -- an empty deck, one cell: one step, no entry
     ∷ row (numbers emptyGrid (sweep 0 0 0 1023 1023 ∷ sweeps 0 1)) (0 ∷ 22 ∷ [])
     ∷ row (collected (sweep 0 0 0 1023 1023 ∷ sweeps 0 1)) (0 ∷ 1 ∷ [])
     -- carrier 9, alone and reported once, is at (2100, 100); the sweep has passed cell 0; 9 goes to (100, 100) to the end: listed at (2100, 100), 5 steps
     ∷ row (collected ((start 0 9 2100 100 ∷ steps 0 7) ++ (sweep 0 0 0 3071 100 ∷ sweeps 0 1) ++ (start 0 9 100 100 ∷ steps 0 8) ++ sweeps 0 4)) (0 ∷ 5 ∷ 9 ∷ 2100 ∷ 100 ∷ [])
     -- carrier 9, alone, was at (100, 100), stands at (1100, 100); the same sweep finishes cells 0 and 1; 9 goes to (2100, 100): listed there after 9 steps
-    ∷ row (collected ((start 0 9 100 100 ∷ steps 0 7) ++ (start 0 9 1100 100 ∷ steps 0 8) ++ (sweep 0 0 0 3071 100 ∷ sweeps 0 6) ++ (start 0 9 2100 100 ∷ steps 0 14) ++ sweeps 0 3)) (0 ∷ 9 ∷ 9 ∷ 2100 ∷ 100 ∷ [])
+    ∷ row (collected nine) (0 ∷ 9 ∷ 9 ∷ 2100 ∷ 100 ∷ [])
     -- which finishes with that step
-    ∷ row (drop 39 (numbers emptyGrid ((start 0 9 100 100 ∷ steps 0 7) ++ (start 0 9 1100 100 ∷ steps 0 8) ++ (sweep 0 0 0 3071 100 ∷ sweeps 0 6) ++ (start 0 9 2100 100 ∷ steps 0 14) ++ sweeps 0 3))) (0 ∷ 0 ∷ 22 ∷ [])
-    -- its account: 9 steps with K = 3 and N = 1, which is K + 6N and more than K + 5N; 6 buckets and tuples were found
-    ∷ row (account ((start 0 9 100 100 ∷ steps 0 7) ++ (start 0 9 1100 100 ∷ steps 0 8) ++ (sweep 0 0 0 3071 100 ∷ sweeps 0 6) ++ (start 0 9 2100 100 ∷ steps 0 14) ++ sweeps 0 3)) (9 ∷ 3 ∷ 1 ∷ 1 ∷ 6 ∷ 9 ∷ [])
-    -- before its last step it has had 8, and has not finished
-    ∷ row (account ((start 0 9 100 100 ∷ steps 0 7) ++ (start 0 9 1100 100 ∷ steps 0 8) ++ (sweep 0 0 0 3071 100 ∷ sweeps 0 6) ++ (start 0 9 2100 100 ∷ steps 0 14) ++ sweeps 0 2)) (8 ∷ 3 ∷ 1 ∷ 0 ∷ 6 ∷ 8 ∷ [])
-    -- collected and followed by another query of the lane, which is blocked at the cell that a report has locked; a refused step (lane 4) counts for nothing
-    ∷ row (account ((start 0 7 100 100 ∷ steps 0 7) ++ (sweep 0 0 0 1023 1023 ∷ sweeps 0 3) ++ collect 0 768 ∷ start 0 8 200 200 ∷ step 0 ∷ step 0 ∷ sweep 0 0 0 1023 1023 ∷ stepQuery 0 ∷ stepQuery 4 ∷ [])) (0 ∷ 1 ∷ 2 ∷ 0 ∷ 0 ∷ 0 ∷ [])
-    ∷ row (tallied (history ((start 0 7 100 100 ∷ steps 0 7) ++ (sweep 0 0 0 1023 1023 ∷ sweeps 0 3) ++ collect 0 768 ∷ start 0 8 200 200 ∷ step 0 ∷ step 0 ∷ sweep 0 0 0 1023 1023 ∷ stepQuery 0 ∷ stepQuery 4 ∷ []) emptyGrid [])) (20 ∷ 22 ∷ 0 ∷ 0 ∷ [])
+    ∷ row (drop 39 (numbers emptyGrid nine)) (0 ∷ 0 ∷ 22 ∷ [])
     -- the same rectangle on two decks with different carriers in it: different lists
-    ∷ row (collected ((start 0 7 100 100 ∷ steps 0 7) ++ sweep 0 0 0 1023 1023 ∷ sweeps 0 3)) (0 ∷ 3 ∷ 7 ∷ 100 ∷ 100 ∷ [])
+    ∷ row (collected (seven ++ sweep 0 0 0 1023 1023 ∷ sweeps 0 3)) (0 ∷ 3 ∷ 7 ∷ 100 ∷ 100 ∷ [])
     ∷ row (collected ((start 0 8 200 200 ∷ steps 0 7) ++ sweep 0 0 0 1023 1023 ∷ sweeps 0 3)) (0 ∷ 3 ∷ 8 ∷ 200 ∷ 200 ∷ [])
     ∷ []
+
+-- the account of a sweep and the tally's answers
+unfoldable accountRows : List Row
+accountRows =
+    -- the sweep of 9 steps: K = 3 and N = 1, so 9 is K + 6N and more than K + 5N; 6 buckets and tuples were found
+    row (account nine) (9 ∷ 3 ∷ 1 ∷ 1 ∷ 6 ∷ 9 ∷ [])
+    -- before its last step it has had 8, and has not finished
+    ∷ row (account eight) (8 ∷ 3 ∷ 1 ∷ 0 ∷ 6 ∷ 8 ∷ [])
+    -- a collected one does not count for the next, nor does a step that is blocked or refused
+    ∷ row (account again) (0 ∷ 1 ∷ 2 ∷ 0 ∷ 0 ∷ 0 ∷ [])
+    ∷ row (tallied (history again emptyGrid [])) (20 ∷ 22 ∷ 0 ∷ 0 ∷ [])
+    ∷ []
+
+-- how many reports there are during a sweep, and that the bound is for one of each carrier
+unfoldable boundRows : List Row
+boundRows =
+    -- one report of carrier 9 during the sweep of 9 steps, which is all that the bound allows
+    row (during nine 9) (one 1)
+    -- with two it does not hold: 12 steps, K = 4, N = 1, and K + 6N = 10
+    ∷ row (during twelve 9) (one 2)
+    ∷ row (account twelve) (12 ∷ 4 ∷ 1 ∷ 1 ∷ 8 ∷ 12 ∷ [])
+    -- nor is a carrier listed then that has all its places inside
+    ∷ row (collected lost) (0 ∷ 3 ∷ [])
+    ∷ []
+
+-- THE TABLE: more rows go into a part, or into a part of their own
+pub table : List Row
+table = numberRows ++ reportRows ++ sweepRows ++ accountRows ++ boundRows
 
 unfoldable pub gives : List Row → List (List ℕ)
 gives [] = []
@@ -180,7 +265,69 @@ unfoldable pub says : List Row → List (List ℕ)
 says [] = []
 says (r ∷ t) = r .says ∷ says t
 
+-- a part of which every row gives what it says
+abbrev pub Holds : List Row → Type 0
+Holds t = gives t ≡ says t
+
+gives-both : (s t : List Row) → gives (s ++ t) ≡ gives s ++ gives t
+unfolding gives
+gives-both [] t = refl
+gives-both (r ∷ s) t = rw (gives-both s t)
+
+says-both : (s t : List Row) → says (s ++ t) ≡ says s ++ says t
+unfolding says
+says-both [] t = refl
+says-both (r ∷ s) t = rw (says-both s t)
+
+-- two parts together
+pub both : (s t : List Row) → Holds s → Holds t → Holds (s ++ t)
+both s t h k = rw (gives-both s t, says-both s t, h, k)
+
+-- what the computations open
+unfoldable pub opened : ℕ
+unfolding gives says cellsTouched stages stageNo upd during duringBy account accountBy tallied history deed when underWay among
+    knownOf tally tallyStep queriesOf latest total walk rowsFrom columns rows chainOf bucketsFrom inFront tuplesIn
+    sum bit corners cornersOn ordered onGrid cellOf pick hash numbersOf sweeps collected steps call run answers
+    emptyGrid emptyTables inside visited next addReader takeReader leaveFor lookFrom enlist note counted afterCell
+    enterFree enterStep leaveLast leaveStep comparable consider readStep scanOn queryStart queryStep idleQueries
+    isFinished isIdleQuery collectQuery entriesFrom seen read seenBy idleUpdaters after updateStart updateStep
+    stepped started stageOn lift unless isIdle hasRoom rightLengths rightCells rightTuples rightIndex rightHits
+    need await andThen atEntry attempt draw look take release search probe after# known insert enterAt empty
+    members height withHeight pool-take pool-give fresh numbersFrom encode decode readPlace putPlace erasePlace
+    shift stampOf needSlot stampRange copy overwrite delete sign signOf firstBucket needSome last lower giveBack
+    push makeRoom write raise hold stage1 stage2 stage3 goBack stage14 stage4 stage5 stage6 stage7 freeCell
+    correct correctMoved rewrite lockNew choose stage8 stage9 stage10 stage11 stage12 stage13
+opened = 0
+
+-- each part by computing it
+number-rows : Holds numberRows
+unfolding opened numberRows
+number-rows = refl
+
+report-rows : Holds reportRows
+unfolding opened reportRows
+report-rows = refl
+
+sweep-rows : Holds sweepRows
+unfolding opened sweepRows
+sweep-rows = refl
+
+account-rows : Holds accountRows
+unfolding opened accountRows
+account-rows = refl
+
+bound-rows : Holds boundRows
+unfolding opened boundRows
+bound-rows = refl
+
 -- THE PROOF: every row gives what document 01 says
 pub trials : gives table ≡ says table
-unfolding gives says table stages stageNo upd account accountBy tallied history deed when underWay among knownOf tally tallyStep queriesOf latest total walk rowsFrom columns rows chainOf bucketsFrom inFront tuplesIn sum bit corners cornersOn ordered onGrid cellOf pick hash numbersOf sweeps collected steps call run answers emptyGrid emptyTables inside visited next addReader takeReader leaveFor lookFrom enlist note counted afterCell enterFree enterStep leaveLast leaveStep comparable consider readStep scanOn queryStart queryStep idleQueries isFinished isIdleQuery collectQuery entriesFrom seen read seenBy idleUpdaters after updateStart updateStep stepped started stageOn lift unless isIdle hasRoom rightLengths rightCells rightTuples rightIndex rightHits need await andThen atEntry attempt draw look take release search probe after# known insert enterAt empty members height withHeight pool-take pool-give fresh numbersFrom encode decode readPlace putPlace erasePlace shift stampOf needSlot stampRange copy overwrite delete sign signOf firstBucket needSome last lower giveBack push makeRoom write raise hold stage1 stage2 stage3 goBack stage14 stage4 stage5 stage6 stage7 freeCell correct correctMoved rewrite lockNew choose stage8 stage9 stage10 stage11 stage12 stage13
-trials = refl
+unfolding table
+trials =
+    both _ boundRows
+    (both _ accountRows
+    (both _ sweepRows
+    (both numberRows reportRows number-rows report-rows)
+    sweep-rows)
+    account-rows)
+    bound-rows

@@ -2,15 +2,13 @@
 use mathlib.Core.Path.{_≡_, refl}
 use mathlib.Core.List.{List, [], _∷_}
 use Prim.Native.Nat.{ℕ}
-use native.Mathlib.Omega.{arith}
 use Rattle.stage.specs.declared.Stage.the-variants.{Idle}
 use Rattle.query.specs.declared.Scan.the-variants.{Idle as IdleQuery}
-use Rattle.tables.specs.Tables.{emptyTables}
 use Rattle.updates.specs.Update.{idleUpdater, idleUpdaters}
 use Rattle.queries.specs.Query.{idleQuery, idleQueries}
 use Rattle.grid.specs.Run.{Grid, Call, startUpdate, stepUpdate, startQuery, stepQuery, collect, call, run, answers, emptyGrid}
 use Rattle.runs.specs.Sweeps.{query}
-use Rattle.runs.proofs.Empty.{all-same, empty-good}
+use Rattle.runs.proofs.Empty.{all-same, empty-good, empty-unknown}
 use Rattle.runs.proofs.Runs.{call-good}
 use Rattle.runs.proofs.View.{view}
 use Rattle.tuples.proofs.Fresh.{late}
@@ -32,11 +30,7 @@ query-idle : (q : ℕ) → query emptyGrid q .stage ≡ IdleQuery
 unfolding emptyGrid idleQueries
 query-idle q = rw (all-same 4 q idleQuery)
 
-clock-zero : view emptyGrid .clock ≡ 0
-unfolding view emptyGrid emptyTables
-clock-zero = refl
-
-empty-fine : Fine [] emptyGrid
+pub empty-fine : Fine [] emptyGrid
 unfolding underWay standing late
 empty-fine =
     let G = empty-good in
@@ -51,7 +45,7 @@ empty-fine =
           busy = λ l l< n. absurd (n (lane-idle l));
           aims = λ l l<. record { switch = λ p e. let w = lane-idle l in clash (cc); there = λ t. absurd (rw (lane-idle l) at t); spot = λ t. absurd (rw (lane-idle l) at t) };
           stays = λ k n. absurd (n refl);
-          positive = λ b c h i o lt t. absurd (omega (arith, clock-zero, G .inv .young .young b i, G .inv .placed .inside b c h i o lt .1));
+          positive = λ b c h i o lt t. absurd (empty-unknown _ (G .inv .young .heard b i (G .inv .placed .inside b c h i o lt .1)));
         };
         sees = λ q q< n. absurd (n (query-idle q));
       };

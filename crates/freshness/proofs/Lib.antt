@@ -1,9 +1,11 @@
 pub mod Agree
 pub mod Begin
+pub mod CallKinds
 pub mod Entries
 pub mod Every
 pub mod Fine
 pub mod Finish
+pub mod From
 pub mod Handed
 pub mod Kept
 pub mod Later
@@ -11,6 +13,9 @@ pub mod Nests
 pub mod Paper
 pub mod Past
 pub mod Queries
+pub mod SameHistory
+pub mod Settled
+pub mod Standing
 pub mod Starting
 pub mod State
 pub mod Stepping

@@ -7,20 +7,24 @@ use mathlib.Core.Bool.{Bool, true, false, not, _&&_}
 use mathlib.Core.Option.{Option, none, some}
 use mathlib.Core.List.{List, [], _∷_, _++_}
 use Prim.Native.Nat.{ℕ, zero, suc, _<_}
-use lib.Dec.{eqb, leb}
+use lib.Dec.{eqb}
 use Rattle.base.specs.Outcome.{pick}
 use Rattle.layout.specs.declared.question.Question.{Question}
+use Rattle.calls.specs.Call.{acceptedNumber}
 use Rattle.grid.specs.Run.{Call, startUpdate, stepUpdate, startQuery, stepQuery, collect, Answer, answers, emptyGrid}
 use Rattle.machine.specs.History.{Spot, Hit, hit}
 
 -- ---- events
 
--- the numbers of refusals are 1 to 13
+-- every number that is not that of an accepted call
 unfoldable pub refused : ℕ → Bool
-refused n = leb 1 n && leb n 13
+refused n = not (acceptedNumber n)
 
--- What can happen: an update of an object to a place begins in a lane, the update of a lane ends, a query begins in a lane.
+-- What can happen: an update of an object to a place begins in a lane, the update of a lane ends, a query begins in a lane; or
+-- everything is settled: every update under way has ended, every query is abandoned, and each object stands where it is said, or
+-- nowhere. No call of today settles anything; a list that is made on another grid than the empty one begins so.
 pub data Event : Type 0 where
+  settles : (ℕ → Option Spot) → Event
   begins : ℕ → Hit → Event
   ends : ℕ → Event
   asks : ℕ → Question → Event
@@ -53,6 +57,7 @@ past cs = events cs (answers cs emptyGrid) []
 -- the update under way in a lane: its object and the place reported
 unfoldable pub underWay : ℕ → List Event → Option Hit
 underWay l [] = none
+underWay l (settles f ∷ es) = none
 underWay l (begins j h ∷ es) = pick (eqb j l) (some h) (underWay l es)
 underWay l (ends j ∷ es) = pick (eqb j l) none (underWay l es)
 underWay l (asks j u ∷ es) = underWay l es
@@ -65,6 +70,7 @@ settled k (some h) s = pick (eqb (h .oid) k) (some (h .spot)) s
 -- where an object stands: the place of its last ended update
 unfoldable pub standing : ℕ → List Event → Option Spot
 standing k [] = none
+standing k (settles f ∷ es) = f k
 standing k (begins j h ∷ es) = standing k es
 standing k (ends j ∷ es) = settled k (underWay j es) (standing k es)
 standing k (asks j u ∷ es) = standing k es
@@ -78,6 +84,7 @@ NoneUnderWay es = (l : ℕ) → l < 8 → underWay l es ≡ none
 -- the question of the query of lane q, by its last accepted start
 unfoldable pub question : ℕ → List Event → Option Question
 question q [] = none
+question q (settles f ∷ es) = none
 question q (begins j h ∷ es) = question q es
 question q (ends j ∷ es) = question q es
 question q (asks j u ∷ es) = pick (eqb j q) (some u) (question q es)
@@ -98,6 +105,7 @@ andUpdate k (some h) s rs = pick (eqb (h .oid) k) (updateOf (h .spot) s ∷ rs) 
 -- the updates of object k that have ended since the query of lane q began, the last first
 unfoldable pub ended : ℕ → ℕ → List Event → List Update
 ended q k [] = []
+ended q k (settles f ∷ es) = []
 ended q k (begins j h ∷ es) = ended q k es
 ended q k (ends j ∷ es) = andUpdate k (underWay j es) (standing k es) (ended q k es)
 ended q k (asks j u ∷ es) = pick (eqb j q) [] (ended q k es)
@@ -136,7 +144,7 @@ takes q (startUpdate l k x y) n = false
 takes q (stepUpdate l) n = false
 takes q (startQuery j u) n = false
 takes q (stepQuery j) n = false
-takes q (collect j m) n = eqb j q && not (refused n)
+takes q (collect j m) n = eqb j q && acceptedNumber n
 
 -- none of the calls, with their answers, is one
 unfoldable pub uncollected : ℕ → List Call → List Answer → Bool

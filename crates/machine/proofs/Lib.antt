@@ -1,1 +1,3 @@
+pub mod Leads
 pub mod Pigeon
+pub mod StageFits

@@ -2,13 +2,15 @@
 use mathlib.Core.Path.{_≡_, refl, ap}
 use mathlib.Core.Bool.{Bool, true, false}
 use mathlib.Core.Option.{none}
-use Prim.Native.Nat.{ℕ, zero, suc, _+_, _*_, _<_}
+use Prim.Native.Nat.{ℕ, zero, suc, _+_, _*_, _<_, _≤_}
 use native.Mathlib.Omega.{arith}
 use lib.Dec.{T, ltb}
 use lib.IntN.{ℤ, pos, natAbs}
 use lib.ListN.{getD, replicate, length-replicate}
 use Rattle.base.specs.Outcome.{pick}
 use Rattle.base.specs.Table.{at, clash}
+use Rattle.layout.specs.Place.{nowhere}
+use Rattle.index.specs.Index.{empty as emptyIndex}
 use Rattle.index.proofs.Map.{sound-empty, lookup-empty}
 use Rattle.index.proofs.Known.{known-empty}
 use Rattle.pool.specs.Pool.{Has, fresh}
@@ -24,12 +26,12 @@ use Rattle.machine.specs.Machine.{St}
 use Rattle.machine.specs.Sums.{sum, bit}
 use Rattle.cells.proofs.Chains.{inPool, Links, Full, Loose}
 use Rattle.cells.proofs.Empty.{links-empty}
-use Rattle.tuples.proofs.Inv.{Inv, Ok, celHeld, ownHeld, movHeld, stands-in}
+use Rattle.tuples.proofs.Inv.{Bounded, Inv, Ok, celHeld, ownHeld, movHeld, stands-in}
 use Rattle.tuples.proofs.Main.{nothing, sel-none, draws-16}
 use Rattle.runs.proofs.Bucket.{store, store-has, has-store, sound-store}
 use Rattle.runs.proofs.Every.{Good}
 use Rattle.runs.proofs.Going.{QueryOk}
-use Rattle.runs.proofs.View.{view, tupF, knownF, lockF, placesF, scannerF, Shape}
+use Rattle.runs.proofs.View.{view, tupF, knownF, lockF, placesF, scannerF, Coded, Shape}
 
 -- a table of one number reads as that number everywhere, if it is the default too
 pub all-same : {A : Type 0} (n i : ℕ) (a : A) → getD (replicate n a) i a ≡ a
@@ -37,12 +39,19 @@ all-same zero i a = refl
 all-same (suc n) zero a = refl
 all-same (suc n) (suc i) a = all-same n i a
 
+-- and is nowhere above it
+all-most : (n i a most : ℕ) → a ≤ most → at (replicate n a) i ≤ most
+all-most zero i a most h = omega arith
+all-most (suc n) zero a most h = h
+all-most (suc n) (suc i) a most h = all-most n i a most h
+
 -- ---- what the machine sees of it
 
 record Blank (d : St) : Type 0 where
   pub links : Links (λ _. inPool) (λ _. 0) (d .first) (d .next)
   pub full : Full (λ _. inPool) (λ _. 0) (d .count)
   pub loose : Loose (λ _. inPool) (d .next) (d .count)
+  pub bounded : Bounded (d .first) (d .next) (d .count)
   pub readers : (b : ℕ) → d .readers b ≡ 0
   pub cells : (c : ℕ) → d .cellLock c ≡ 0
   pub times : (b i : ℕ) → natAbs (d .tup b i .time) ≡ 0
@@ -66,6 +75,11 @@ blank =
       links = links-empty .links;
       full = links-empty .full;
       loose = links-empty .loose;
+      bounded = record {
+        firsts = λ c. all-most 256 c 512 512 (omega arith);
+        nexts = λ b. all-most 512 b 512 512 (omega arith);
+        counts = λ b. all-most 512 b 0 4 (omega arith);
+      };
       readers = λ b. all-same 512 b 0;
       cells = λ c. all-same 256 c 0;
       times = λ b i. tuple-blank b i (ltb i 4);
@@ -91,13 +105,23 @@ blank-inv d B pool =
       full = B .full;
       stored = rw pool (record { held = record { has = λ b t. refl; all = λ b b< o. whole b .1 b< }; below = λ b t. whole b .0 t; fine = sound-store fresh fresh-sound });
       slots = record { back = λ κ k p e. absurd (sel-none κ p e); forth = λ b c h i o lt. clash (cc); apart = λ κ κ′ k p e e′. absurd (sel-none κ p e) };
-      fits = record { fit = λ k. record { curs = λ p e. clash (cc); news = λ p e. clash (cc); prevs = λ p e b. clash (cc); unflagged = λ p e b. clash (cc); far = λ p q e e′. clash (cc) } };
+      fits = record {
+        fit = λ k. record {
+          curs = λ p e. clash (cc);
+          news = λ p e. clash (cc);
+          prevs = λ p e b. clash (cc);
+          unflagged = λ p e b. clash (cc);
+          far = λ p q e e′. clash (cc);
+          pair = λ q e. clash (cc);
+        };
+      };
       free = record { free = λ k e. rw (B .ent k) };
       ok = λ l l<. rw (B .lanes l) tt;
       ranks = record { rank = λ _. 0; low = λ k t. absurd (rw (B .known k) at t); one = λ j k t. absurd (rw (B .known j) at t); most = omega (arith, B .size) };
       ticks = record { left = omega (arith, B .clock, draws-16 (d .lanes)) };
-      young = record { young = λ b i. omega (arith, B .times b i); heard = λ b i h. absurd (omega (arith, B .times b i)) };
+      young = record { range = λ b i. omega (arith, B .times b i); young = λ b i _. omega (arith, B .times b i); heard = λ b i h. absurd (omega (arith, B .times b i)) };
       loose = B .loose;
+      bounded = B .bounded;
       reading = record { exact = λ b. rw (B .readers b, B .queries 0, B .queries 1, B .queries 2, B .queries 3); standing = λ q b q< e. let n = B .queries q in clash (cc) };
       placed = record { inside = λ b c h i o lt. clash (cc) };
       written = record { filled = λ l l< p e. let n = B .lanes l in clash (cc) };
@@ -107,6 +131,14 @@ blank-inv d B pool =
       filled = record { filled = λ b c h o. clash (cc) };
       back = record { lane = λ b l c h o. clash (cc) };
     }
+
+empty-coded : Coded emptyIndex
+unfolding emptyIndex
+empty-coded = record {
+  current = λ i. all-most 512 i nowhere 524288 (omega arith);
+  previous = λ i. all-most 512 i nowhere 524288 (omega arith);
+  lock = λ i. all-most 512 i 0 8 (omega arith);
+}
 
 empty-shape : Shape emptyGrid
 unfolding emptyGrid emptyTables idleUpdaters idleQueries
@@ -135,7 +167,7 @@ empty-shape =
       updaters = length-replicate 8 idleUpdater;
       queries = length-replicate 4 idleQuery;
       index = sound-empty;
-      coded = λ k e h. let n = lookup-empty k in clash (cc);
+      coded = empty-coded;
     }
 
 fresh-pool : view emptyGrid .pool ≡ fresh

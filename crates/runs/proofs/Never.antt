@@ -33,7 +33,7 @@ use Rattle.grid.specs.Run.{Grid}
 use Rattle.machine.specs.Ends.{need}
 use Rattle.machine.specs.Machine.{St, Out, enterAt, leaveAt, readAt, queryStep}
 use Rattle.cells.proofs.Chains.{inChain, unlinked}
-use Rattle.tuples.proofs.Inv.{Ranked, Ghost, Inv}
+use Rattle.tuples.proofs.Inv.{Numbered, numbered, Ghost, Inv}
 use Rattle.tuples.proofs.Main.{ranges}
 use Rattle.tuples.proofs.Walk.{keeps-walk}
 use Rattle.runs.proofs.Bucket.{store}
@@ -138,12 +138,12 @@ link-fits : (n : ℕ) → (n ≢ 512 → n < 512) → n ≤ 512
 link-fits n f = at-or n 512 (λ e. omega arith) (λ e. omega (arith, f e))
 
 -- a time that is not 0, and no later than the clock, is a stamp
-stamp-good : (z : ℤ) → 0 < natAbs z → natAbs z ≤ 2147483616 → badStamp z ≡ false
+stamp-good : (z : ℤ) → 0 < natAbs z → natAbs z ≤ 2147483647 → badStamp z ≡ false
 stamp-good (pos n) p m = ne-eqb n 0 (λ e. omega arith)
 stamp-good (negsuc n) p m = ne-eqb n 2147483647 (λ e. omega arith)
 
 -- a known object that is not listed: the list is not full
-module _ {kn : ℕ → Bool} {size : ℕ} (R : Ranked kn size) (h : Hits) (o# : length (h .oid) ≡ 1024) (x# : length (h .x) ≡ 1024) (y# : length (h .y) ≡ 1024) (q n : ℕ) (q< : q < 4) (L : Listed kn (h .oid) q n) (k : ℕ) (known : T (kn k)) where
+module _ {kn : ℕ → Type 0} (R : Numbered kn) (h : Hits) (o# : length (h .oid) ≡ 1024) (x# : length (h .x) ≡ 1024) (y# : length (h .y) ≡ 1024) (q n : ℕ) (q< : q < 4) (L : Listed kn (h .oid) q n) (k : ℕ) (known : kn k) where
   not-full : (unlisted (lookFrom (h .oid) k n (256 * q)) && leb 256 n) ≡ false
   not-full = by-look (lookFrom (h .oid) k n (256 * q)) refl
     where
@@ -263,5 +263,5 @@ module _ (g : Grid) (G : Good g) (q : ℕ) (q< : q < 4) where
       let same : view g .tup b (r - 1) ≡ tupleAt (t .tuples) (4 * b + (r - 1)) = tup-at (t .tuples) b (r - 1) (omega arith) in
       let p = k .written (r - 1) (omega (arith, left)) in
       let known : T (view g .known (at (t .tuples .oid) (4 * b + (r - 1)))) = rw same at (I .young .heard b (r - 1) p) in
-      let stamp : badStamp (view g .tup b (r - 1) .time) ≡ false = stamp-good (view g .tup b (r - 1) .time) p (omega (arith, I .young .young b (r - 1), I .ticks .left)) in
-      read-clear t q s c few v b b< r r≤ (o .0 .stamped) (o .1 .few) (rw same at stamp) (not-full (I .ranks) (t .hits) (Z .hits) (Z .hitxs) (Z .hitys) q (s .hits) q< (o .1) _ known) _))
+      let stamp : badStamp (view g .tup b (r - 1) .time) ≡ false = stamp-good (view g .tup b (r - 1) .time) p (I .young .range b (r - 1)) in
+      read-clear t q s c few v b b< r r≤ (o .0 .stamped) (o .1 .few) (rw same at stamp) (not-full (numbered (I .ranks)) (t .hits) (Z .hits) (Z .hitxs) (Z .hitys) q (s .hits) q< (o .1) _ known) _))

@@ -41,8 +41,9 @@ later-clock {d = d} n I le early =
       ok = I .ok;
       ranks = I .ranks;
       ticks = record { left = omega (arith, draws-16 (d .lanes)) };
-      young = record { young = λ b i. omega (arith, I .young .young b i); heard = I .young .heard };
+      young = record { range = I .young .range; young = λ b i t. omega (arith, I .young .young b i t); heard = I .young .heard };
       loose = I .loose;
+      bounded = I .bounded;
       reading = I .reading;
       placed = I .placed;
       written = I .written;

@@ -17,7 +17,7 @@ use lib.Signed.{ltZ}
 use borrow.Author.Tests.{eqb-false, lt-ltb, le-ltb, ne-eqb}
 use Rattle.base.specs.Outcome.{done, need, pick, andThen}
 use Rattle.base.specs.Step.{lift}
-use Rattle.base.specs.Table.{at, at-or, at-set, upd, upd-other, by-test}
+use Rattle.base.specs.Table.{at, at-set, upd, upd-other, by-test}
 use Rattle.layout.specs.Place.{encode, nowhere}
 use Rattle.layout.specs.declared.place.Place.{Place}
 use Rattle.layout.proofs.Places.{decode-encode, decode-nowhere, encode-some}
@@ -26,9 +26,9 @@ use Rattle.slots.specs.Stamp.{stampOf}
 use Rattle.slots.specs.Tuple.{Tuples, Tuple, needSlot, signOf, sign}
 use Rattle.index.specs.Search.{search as find}
 use Rattle.index.specs.Places.{putPlace, erasePlace, shift}
-use Rattle.index.specs.Index.{Index, indexOf, Entry, entryAt, lookup}
+use Rattle.index.specs.Index.{Index, indexOf, Entry, lookup}
 use Rattle.index.specs.declared.search.Search.the-variants.{Found}
-use Rattle.index.proofs.Map.{Sound, change, sound-change, found-lookup, lookup-change-same, lookup-change-other}
+use Rattle.index.proofs.Map.{Sound, change, sound-change, found-lookup}
 use Rattle.index.proofs.Probe.{found-below}
 use Rattle.stage.specs.declared.Stage.{Stage}
 use Rattle.stage.specs.declared.Stage.the-variants.{ErasePlace, ChooseCell, SwitchPlace, DeleteOld, ReleaseObject}
@@ -47,7 +47,7 @@ use Rattle.tuples.proofs.Main.{ranges, place-range}
 use Rattle.runs.proofs.Bucket.{ops, store}
 use Rattle.runs.proofs.Sim.{Sim, sim-moved, need-some, some-one, lanes-set, lanes-length}
 use Rattle.runs.proofs.Sizes.{lengths-cells, lengths-index}
-use Rattle.runs.proofs.View.{view, Shape, came, placeF, knownF, lockF, placesF, tupF, tup-at, map-change, upd-id}
+use Rattle.runs.proofs.View.{view, Shape, Coded, coded-change, came, placeF, knownF, lockF, placesF, tupF, tup-at, map-change, upd-id}
 use Rattle.runs.proofs.Objects.{known-found, decode-at}
 
 -- ---- places as numbers
@@ -81,10 +81,6 @@ placesOf x = λ k. placesF (lookup x k)
 
 -- ---- an index on its way from d: the same objects, found at the same entries, with locks L and places E
 
--- the numbers of places are in range
-abbrev Coded : Index → Type 0
-Coded x = (k : ℕ) (e : Entry) → lookup x k ≡ some e → (e .current ≤ 524288) × (e .previous ≤ 524288)
-
 record Now (d x : Index) (L : ℕ → ℕ) (E : ℕ → Places) : Type 0 where
   oids : x .oid ≡ d .oid
   sound : Sound x
@@ -111,20 +107,15 @@ module _ (d x : Index) (L : ℕ → ℕ) (E : ℕ → Places) (k i : ℕ) (q : f
   unfolding placesF
   places-here = rw (← W .places, found-lookup x k here)
 
-  coded-here : (at (x .current) i ≤ 524288) × (at (x .previous) i ≤ 524288)
-  coded-here = W .coded k (entryAt x i) (found-lookup x k here)
-
   -- the whole entry
-  now-change : (e : Entry) → e .current ≤ 524288 → e .previous ≤ 524288
+  now-change : (e : Entry) → e .current ≤ 524288 → e .previous ≤ 524288 → e .lock ≤ 8
       → Now d (change x i e) (upd L k (e .lock)) (upd E k (record { cur = placeF (e .current); prev = placeF (e .previous) }))
   unfolding knownF lockF placesF
-  now-change e c< p< =
+  now-change e c< p< l< =
       record {
         oids = W .oids;
         sound = sound-change i e (W .sound);
-        coded = λ j f z. at-or j k
-            (λ (w : j ≡ k). let y : f ≡ e = cc (lookup-change-same k e (W .sound) here) in rw y (c<, p<))
-            (λ n. W .coded j f (sym (lookup-change-other k j e (W .sound) here n) ∙ z));
+        coded = coded-change i e c< p< l< (W .coded);
         knows = map-change knownF k e (W .sound) here ∙ upd-id _ k true (rw (found-lookup x k here)) ∙ W .knows;
         locks = map-change lockF k e (W .sound) here ∙ rw (W .locks);
         places = map-change placesF k e (W .sound) here ∙ rw (W .places);
@@ -135,21 +126,21 @@ module _ (d x : Index) (L : ℕ → ℕ) (E : ℕ → Places) (k i : ℕ) (q : f
       → Now d (indexOf (x .oid) (x .lock) (set (x .current) i c) (set (x .previous) i p)) L (upd E k (record { cur = placeF c; prev = placeF p }))
   now-both c p c< p< =
       rw (set-getD (x .lock) i 0, upd-id L k (at (x .lock) i) lock-here) at
-      (now-change (record { lock = at (x .lock) i; current = c; previous = p }) c< p<)
+      (now-change (record { lock = at (x .lock) i; current = c; previous = p }) c< p< (W .coded .lock i))
 
   -- the current place alone
   now-current : (c : ℕ) → c ≤ 524288 → Now d (indexOf (x .oid) (x .lock) (set (x .current) i c) (x .previous)) L (upd E k (record { cur = placeF c; prev = E k .prev }))
-  now-current c c< = rw places-here (rw (set-getD (x .previous) i 0) at (now-both c (at (x .previous) i) c< (coded-here .1)))
+  now-current c c< = rw places-here (rw (set-getD (x .previous) i 0) at (now-both c (at (x .previous) i) c< (W .coded .previous i)))
 
   -- the previous place alone
   now-previous : (p : ℕ) → p ≤ 524288 → Now d (indexOf (x .oid) (x .lock) (x .current) (set (x .previous) i p)) L (upd E k (record { cur = E k .cur; prev = placeF p }))
-  now-previous p p< = rw places-here (rw (set-getD (x .current) i 0) at (now-both (at (x .current) i) p (coded-here .0) p<))
+  now-previous p p< = rw places-here (rw (set-getD (x .current) i 0) at (now-both (at (x .current) i) p (W .coded .current i) p<))
 
   -- the lock alone
-  now-lock : (v : ℕ) → Now d (indexOf (x .oid) (set (x .lock) i v) (x .current) (x .previous)) (upd L k v) E
-  now-lock v =
+  now-lock : (v : ℕ) → v ≤ 8 → Now d (indexOf (x .oid) (set (x .lock) i v) (x .current) (x .previous)) (upd L k v) E
+  now-lock v v≤ =
       rw (set-getD (x .current) i 0, set-getD (x .previous) i 0, upd-id E k _ places-here) at
-      (now-change (record { lock = v; current = at (x .current) i; previous = at (x .previous) i }) (coded-here .0) (coded-here .1))
+      (now-change (record { lock = v; current = at (x .current) i; previous = at (x .previous) i }) (W .coded .current i) (W .coded .previous i) v≤)
 
   -- entry i is in range of the tables
   lock-in : i < length (x .lock)
@@ -166,8 +157,8 @@ module _ (d x : Index) (L : ℕ → ℕ) (E : ℕ → Places) (k i : ℕ) (q : f
       → (shift (x .current) (x .previous) i p ≡ done (record { old = E k .cur; current = set (x .current) i n; previous = set (x .previous) i (at (x .current) i) }))
       × Now d (indexOf (x .oid) (x .lock) (set (x .current) i n) (set (x .previous) i (at (x .current) i))) L (upd E k (record { cur = some p; prev = E k .cur }))
   now-shift p n z n< = (
-    rw places-here (shift-done (x .current) (x .previous) i p n current-in previous-in (coded-here .0) z),
-    rw (places-here, ← place-seen p n z) (now-both n (at (x .current) i) (omega arith) (coded-here .0)),
+    rw places-here (shift-done (x .current) (x .previous) i p n current-in previous-in (W .coded .current i) z),
+    rw (places-here, ← place-seen p n z) (now-both n (at (x .current) i) (omega arith) (W .coded .current i)),
   )
 
   -- the previous place erased
@@ -196,19 +187,19 @@ now-moved d x L E k i q W times cells p n s e z n< =
       C .0,
       C .1,
       rw (here d x L E k i q W, e, C .2, release-some (x .lock) i (lock-in d x L E k i q W)),
-      now-lock d (indexOf (x .oid) (x .lock) (C .0) (C .1)) L _ k i q (C .3) 0,
+      now-lock d (indexOf (x .oid) (x .lock) (C .0) (C .1)) L _ k i q (C .3) 0 (omega arith),
     )
 
 -- ---- the stages' own steps
 
 -- a stamp that is one has a sign
-sign-stamp : (s : ℤ) → 0 < natAbs s → natAbs s ≤ 2147483616 → signOf (stampOf s) ≡ done (ltZ s (pos 0))
+sign-stamp : (s : ℤ) → 0 < natAbs s → natAbs s ≤ 2147483647 → signOf (stampOf s) ≡ done (ltZ s (pos 0))
 unfolding signOf stampOf pick
 sign-stamp (pos n) a b = rw (ne-eqb n 0 (λ e. omega arith), le-ltb n 0 (omega arith))
 sign-stamp (negsuc n) a b = rw (ne-eqb n 2147483647 (λ e. omega arith))
 
 -- so has the tuple at a slot
-sign-done : (d : Tuples) (b i : ℕ) → b < 512 → i < 4 → 0 < natAbs (tupF d b i .time) → natAbs (tupF d b i .time) ≤ 2147483616
+sign-done : (d : Tuples) (b i : ℕ) → b < 512 → i < 4 → 0 < natAbs (tupF d b i .time) → natAbs (tupF d b i .time) ≤ 2147483647
     → sign (d .time) b i ≡ done (ltZ (tupF d b i .time) (pos 0))
 unfolding sign needSlot need
 sign-done d b i b< i< lo hi = rw (lt-ltb b 512 b<, lt-ltb i 4 i<, ← ap (λ (v : Tuple). v .time) (tup-at d b i i<)) (sign-stamp (tupF d b i .time) lo hi)
@@ -298,8 +289,7 @@ module _ (g : Grid) (Z : Shape g) (gh : Ghost) (I : Inv store gh (view g)) (l : 
       let R = place-range I (κ .0) m p (κ .1) in
       let B = I .slots .back (κ .0) m p (κ .1) .0 in
       let P = I .placed .inside (p .bucket) (p .cell) (B .h) (p .slot) (B .owned) (B .low) in
-      let Y = I .young .young (p .bucket) (p .slot) in
-      let C = I .ticks .left in
+      let Y = I .young .range (p .bucket) (p .slot) in
       (R .0, R .1, R .2, sign-done (t .tuples) (p .bucket) (p .slot) (R .1) (R .2) (P .1) (omega arith))
 
   -- the cell is one that the lane holds

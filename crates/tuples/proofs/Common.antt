@@ -11,8 +11,8 @@ use Prim.Native.Nat.{ℕ, zero, suc, _+_, _≤_, _<_}
 use native.Mathlib.Omega.{arith}
 use lib.Dec.{T, ltb→lt}
 use lib.IntN.{ℤ, pos, negsuc, natAbs}
-use Rattle.machine.specs.Marks.{stands}
-use Rattle.base.specs.Table.{upd, upd-same, upd-other, at-or}
+use Rattle.machine.specs.Marks.{stands, stood}
+use Rattle.base.specs.Table.{upd, upd-same, upd-other, at-or, clash}
 use Rattle.layout.specs.declared.place.Place.{Place}
 use Rattle.layout.specs.Place.{cellOf}
 use Rattle.slots.specs.Tuple.{Tuple}
@@ -36,6 +36,7 @@ fit-same f F =
       prevs = λ p e b. rw (f kPrev p e) (F .prevs p e b);
       unflagged = λ p e b. rw (f kPrev p e) (F .unflagged p e b);
       far = F .far;
+      pair = F .pair;
     }
 
 pub fits-upd : {tup : ℕ → ℕ → Tuple} {gh : ℕ → Pos} (k : ℕ) (g′ : Pos) → Fits tup gh → Fit tup g′ → Fits tup (upd gh k g′)
@@ -82,33 +83,57 @@ pub timed : (z : ℤ) → T (stands z) → 0 < natAbs z
 timed (pos n) t = ltb→lt 0 n t
 timed (negsuc n) t = absurd t
 
-pub young-put : {tup : ℕ → ℕ → Tuple} {known : ℕ → Bool} {clock : ℕ} (clock′ b i : ℕ) (v : Tuple) → clock ≤ clock′ → natAbs (v .time) ≤ clock′ → (0 < natAbs (v .time) → T (known (v .oid))) → Young tup known clock → Young (put tup b i v) known clock′
-young-put {tup} clock′ b i v h h′ kn Y = record {
+pub young-put : {tup : ℕ → ℕ → Tuple} {known : ℕ → Bool} {clock : ℕ} (clock′ b i : ℕ) (v : Tuple) → clock ≤ clock′ → natAbs (v .time) ≤ 2147483647 → (T (stood (v .time)) → natAbs (v .time) ≤ clock′) → (0 < natAbs (v .time) → T (known (v .oid))) → Young tup known clock → Young (put tup b i v) known clock′
+young-put {tup} clock′ b i v h r h′ kn Y = record {
+  range = λ b′ i′. slot-or b i b′ i′ (λ e₁ e₂. rw (e₁, e₂, put-same tup b i v) r) (λ n. rw (put-else tup b i v b′ i′ n) (Y .range b′ i′));
   heard = λ b′ i′. slot-or b i b′ i′ (λ e₁ e₂. rw (e₁, e₂, put-same tup b i v) kn) (λ n. rw (put-else tup b i v b′ i′ n) (Y .heard b′ i′));
   young = λ b′ i′. slot-or b i b′ i′
       (λ e₁ e₂. rw (e₁, e₂, put-same tup b i v) h′)
-      (λ n. rw (put-else tup b i v b′ i′ n) (let y = Y .young b′ i′ in omega arith));
+      (λ n. rw (put-else tup b i v b′ i′ n) (λ t. let y = Y .young b′ i′ t in omega arith));
 }
 
--- buckets keep their owners as far as queries mind, and what was written stays written
+-- a number within a bound, written over another
+pub most-upd : (f : ℕ → ℕ) (most k v : ℕ) → ((j : ℕ) → f j ≤ most) → v ≤ most → (j : ℕ) → upd f k v j ≤ most
+most-upd f most k v h h′ j = at-or j k (λ e. rw (e, upd-same f k v) h′) (λ n. rw (upd-other f k v j n) (h j))
+
+-- a tuple with a time, in a cell
+pub record Lying (c : ℕ) (t : Tuple) : Type 0 where
+  pub written : 0 < natAbs (t .time)
+  pub here : (cellOf (t .x) (t .y) ≡ c) × (t .x < 16384) × (t .y < 16384)
+
+-- buckets keep their owners as far as queries mind, and what was written in a cell stays written there
 pub reading-step : {own own′ : ℕ → Owner} {tup tup′ : ℕ → ℕ → Tuple} {readers : ℕ → ℕ} {queries : ℕ → Scanner}
     → ((b q c h : ℕ) → q < 4 → queries q .bucket ≡ some b → (own b ≡ inChain c h) ⊎ ((l : ℕ) × (own b ≡ unlinked l c h)) → (own′ b ≡ inChain c h) ⊎ ((l : ℕ) × (own′ b ≡ unlinked l c h)))
-    → ((b i : ℕ) → 0 < natAbs (tup b i .time) → 0 < natAbs (tup′ b i .time))
+    → ((b i c h : ℕ) → (own b ≡ inChain c h) ⊎ ((l : ℕ) × (own b ≡ unlinked l c h)) → Lying c (tup b i) → Lying c (tup′ b i))
     → Reading own tup readers queries → Reading own′ tup′ readers queries
-reading-step f w R = record {
+reading-step {tup = tup} f w R = record {
   exact = R .exact;
   standing = λ q b q< e. let t = R .standing q b q< e in
-      record { h = t .h; owned = f b q _ (t .h) q< e (t .owned); few = t .few; written = λ i lt. w b i (t .written i lt) };
+      let kept : (i : ℕ) → i < _ → Lying _ _ = λ i lt. w b i _ (t .h) (t .owned) (record { written = t .written i lt; here = t .here i lt }) in
+      record { h = t .h; owned = f b q _ (t .h) q< e (t .owned); few = t .few; written = λ i lt. kept i lt .written; here = λ i lt. kept i lt .here };
 }
 
-pub written-put : (tup : ℕ → ℕ → Tuple) (b i : ℕ) (v : Tuple) → 0 < natAbs (v .time) → (b′ i′ : ℕ) → 0 < natAbs (tup b′ i′ .time) → 0 < natAbs (put tup b i v b′ i′ .time)
-written-put tup b i v h b′ i′ h′ = slot-or b i b′ i′ (λ e₁ e₂. rw (e₁, e₂, put-same tup b i v) h) (λ n. rw (put-else tup b i v b′ i′ n) h′)
+-- a tuple written over another in a chain's bucket: who stands there stands in that chain's cell
+pub written-put : (own : ℕ → Owner) (tup : ℕ → ℕ → Tuple) (b i : ℕ) (v : Tuple) (c h : ℕ) → own b ≡ inChain c h → 0 < natAbs (v .time) → (cellOf (v .x) (v .y) ≡ c) × (v .x < 16384) × (v .y < 16384)
+    → (b′ i′ c′ h′ : ℕ) → (own b′ ≡ inChain c′ h′) ⊎ ((l : ℕ) × (own b′ ≡ unlinked l c′ h′)) → Lying c′ (tup b′ i′) → Lying c′ (put tup b i v b′ i′)
+written-put own tup b i v c h o lt e b′ i′ c′ h′ o′ w = slot-or b i b′ i′
+    (λ e₁ e₂. rw (e₁, e₂, put-same tup b i v) (record {
+      written = lt;
+      here = (
+        e .0 ∙ ⊎-elim
+            (λ z. let y : inChain c h ≡ inChain c′ h′ = sym o ∙ ap own (sym e₁) ∙ z in cc)
+            (λ (z : (l : ℕ) × (own b′ ≡ unlinked l c′ h′)). let y : inChain c h ≡ unlinked (z .0) c′ h′ = sym o ∙ ap own (sym e₁) ∙ z .1 in clash (cc)) o′,
+        e .1,
+        e .2,
+      );
+    }))
+    (λ n. rw (put-else tup b i v b′ i′ n) w)
 
-pub placed-put : {own : ℕ → Owner} {count : ℕ → ℕ} {tup : ℕ → ℕ → Tuple} (p : Place) (h : ℕ) (v : Tuple) → own (p .bucket) ≡ inChain (p .cell) h → cellOf (v .x) (v .y) ≡ p .cell → 0 < natAbs (v .time)
+pub placed-put : {own : ℕ → Owner} {count : ℕ → ℕ} {tup : ℕ → ℕ → Tuple} (p : Place) (h : ℕ) (v : Tuple) → own (p .bucket) ≡ inChain (p .cell) h → cellOf (v .x) (v .y) ≡ p .cell → 0 < natAbs (v .time) → v .x < 16384 → v .y < 16384
     → Placed own count tup → Placed own count (put tup (p .bucket) (p .slot) v)
-placed-put {own} {count} {tup} p h₀ v o₀ e lt P = record {
+placed-put {own} {count} {tup} p h₀ v o₀ e lt x< y< P = record {
   inside = λ b c h i o l. slot-or (p .bucket) (p .slot) b i
-      (λ e₁ e₂. let w : inChain (p .cell) h₀ ≡ inChain c h = cc in let w′ : p .cell ≡ c = cc in rw (e₁, e₂, put-same tup (p .bucket) (p .slot) v) (e ∙ w′, lt))
+      (λ e₁ e₂. let w : inChain (p .cell) h₀ ≡ inChain c h = cc in let w′ : p .cell ≡ c = cc in rw (e₁, e₂, put-same tup (p .bucket) (p .slot) v) (e ∙ w′, lt, x<, y<))
       (λ n. rw (put-else tup (p .bucket) (p .slot) v b i n) (P .inside b c h i o l));
 }
 

@@ -17,6 +17,7 @@ use mathlib.Core.Bool.{Bool, true, false}
 use mathlib.Core.Option.{Option, none, some}
 use mathlib.Core.List.{List}
 use Prim.Native.Nat.{ℕ, suc, _+_, _-_, _≤_, _<_}
+use native.Mathlib.Omega.{arith}
 use lib.Dec.{T, eqb}
 use lib.IntN.{natAbs}
 use Rattle.machine.specs.Store.{StoreOps, Store}
@@ -29,6 +30,7 @@ use Rattle.stage.specs.declared.Stage.{Stage}
 use Rattle.stage.specs.declared.Stage.the-variants.{Idle, TakeObject, LockCell, LookLast, CopyLast, LowerCount, ReturnBucket, ErasePlace, ChooseCell, MakeRoom, WriteTuple, RaiseCount, SwitchPlace, DeleteOld, ReleaseObject}
 use Rattle.stage.specs.declared.Updater.{Updater}
 use Rattle.machine.specs.Machine.{Entry, Scanner, St}
+use Rattle.machine.specs.StageTable.{row, given, orElse, holdsCell, cellOr}
 use Rattle.cells.proofs.Chains.{Owner, inChain, unlinked, Links, Full, Held, Loose}
 
 -- ---- the pool, in the words of the chains' owners
@@ -77,13 +79,14 @@ pub record Slots (own : ℕ → Owner) (count : ℕ → ℕ) (tup : ℕ → ℕ 
   pub forth : (b c h i : ℕ) → own b ≡ inChain c h → i < count b → (κ : Kind) × (sel κ (gh (tup b i .oid)) ≡ some (pl c b i))
   pub apart : (κ κ′ : Kind) (k : ℕ) (p : Place) → sel κ (gh k) ≡ some p → sel κ′ (gh k) ≡ some p → κ ≡ κ′
 
--- of one object: signs of its times, and its two places in different cells
+-- of one object: signs of its times, its two places in different cells, and a previous one only beside a current one
 pub record Fit (tup : ℕ → ℕ → Tuple) (g : Pos) : Type 0 where
   pub curs : (p : Place) → g .cur ≡ some p → T (stands (tup (p .bucket) (p .slot) .time))
   pub news : (p : Place) → g .new ≡ some p → T (stands (tup (p .bucket) (p .slot) .time))
   pub prevs : (p : Place) → g .prev ≡ some p → g .fresh ≡ false → T (stood (tup (p .bucket) (p .slot) .time))
   pub unflagged : (p : Place) → g .prev ≡ some p → g .fresh ≡ true → T (stands (tup (p .bucket) (p .slot) .time))
   pub far : (p q : Place) → g .cur ≡ some p → g .prev ≡ some q → p .cell ≢ q .cell
+  pub pair : (q : Place) → g .prev ≡ some q → g .cur ≢ none
 
 pub record Fits (tup : ℕ → ℕ → Tuple) (gh : ℕ → Pos) : Type 0 where
   pub fit : (k : ℕ) → Fit tup (gh k)
@@ -118,110 +121,30 @@ pub record Outside (e : Entry) (c : ℕ) : Type 0 where
   pub noPrev : e .prev ≡ none
   pub out : (q : Place) → e .cur ≡ some q → q .cell ≢ c
 
+-- an update at this stage holds its own object's lock, that of the object whose tuple it moves, that of a cell
 unfoldable pub ownHeld : Stage → Bool
-ownHeld Idle = false
-ownHeld TakeObject = false
-ownHeld (LockCell p) = true
-ownHeld (LookLast p) = true
-ownHeld (CopyLast p m) = true
-ownHeld (LowerCount p m) = true
-ownHeld (ReturnBucket p m b) = true
-ownHeld (ErasePlace p m) = true
-ownHeld ChooseCell = true
-ownHeld MakeRoom = true
-ownHeld WriteTuple = true
-ownHeld (RaiseCount p) = true
-ownHeld (SwitchPlace p) = true
-ownHeld (DeleteOld p) = true
-ownHeld ReleaseObject = true
+ownHeld s = row s .own
 
 unfoldable pub movHeld : Stage → Bool
-movHeld Idle = false
-movHeld TakeObject = false
-movHeld (LockCell p) = false
-movHeld (LookLast p) = false
-movHeld (CopyLast p m) = true
-movHeld (LowerCount p m) = true
-movHeld (ReturnBucket p m b) = true
-movHeld (ErasePlace p m) = true
-movHeld ChooseCell = false
-movHeld MakeRoom = false
-movHeld WriteTuple = false
-movHeld (RaiseCount p) = false
-movHeld (SwitchPlace p) = false
-movHeld (DeleteOld p) = false
-movHeld ReleaseObject = false
+movHeld s = given (row s .moved)
 
 unfoldable pub celHeld : Stage → Bool
-celHeld Idle = false
-celHeld TakeObject = false
-celHeld (LockCell p) = false
-celHeld (LookLast p) = true
-celHeld (CopyLast p m) = true
-celHeld (LowerCount p m) = true
-celHeld (ReturnBucket p m b) = true
-celHeld (ErasePlace p m) = true
-celHeld ChooseCell = false
-celHeld MakeRoom = true
-celHeld WriteTuple = true
-celHeld (RaiseCount p) = true
-celHeld (SwitchPlace p) = true
-celHeld (DeleteOld p) = false
-celHeld ReleaseObject = false
+celHeld s = holdsCell (row s .cell)
 
 abbrev pub goal : Updater → ℕ
 goal a = cellOf (a .x) (a .y)
 
+-- the object whose tuple is moved, or its own
 unfoldable pub mv : ℕ → Stage → ℕ
-mv k Idle = k
-mv k TakeObject = k
-mv k (LockCell p) = k
-mv k (LookLast p) = k
-mv k (CopyLast p m) = m
-mv k (LowerCount p m) = m
-mv k (ReturnBucket p m b) = m
-mv k (ErasePlace p m) = m
-mv k ChooseCell = k
-mv k MakeRoom = k
-mv k WriteTuple = k
-mv k (RaiseCount p) = k
-mv k (SwitchPlace p) = k
-mv k (DeleteOld p) = k
-mv k ReleaseObject = k
+mv k s = orElse k (row s .moved)
 
+-- the cell held, or the one where the object is reported
 unfoldable pub cl : ℕ → Stage → ℕ
-cl c Idle = c
-cl c TakeObject = c
-cl c (LockCell p) = c
-cl c (LookLast p) = p .cell
-cl c (CopyLast p m) = p .cell
-cl c (LowerCount p m) = p .cell
-cl c (ReturnBucket p m b) = p .cell
-cl c (ErasePlace p m) = p .cell
-cl c ChooseCell = c
-cl c MakeRoom = c
-cl c WriteTuple = c
-cl c (RaiseCount p) = c
-cl c (SwitchPlace p) = c
-cl c (DeleteOld p) = c
-cl c ReleaseObject = c
+cl c s = cellOr c (row s .cell)
 
+-- the bucket to be returned
 unfoldable pub bk : Stage → ℕ
-bk Idle = 0
-bk TakeObject = 0
-bk (LockCell p) = 0
-bk (LookLast p) = 0
-bk (CopyLast p m) = 0
-bk (LowerCount p m) = 0
-bk (ReturnBucket p m b) = b
-bk (ErasePlace p m) = 0
-bk ChooseCell = 0
-bk MakeRoom = 0
-bk WriteTuple = 0
-bk (RaiseCount p) = 0
-bk (SwitchPlace p) = 0
-bk (DeleteOld p) = 0
-bk ReleaseObject = 0
+bk s = orElse 0 (row s .unlinked)
 
 unfoldable pub Ok : ℕ → ℕ → ℕ → Stage → Entry → Pos → Entry → Pos → Top → Owner → Type 0
 Ok l k c Idle e g em gm t o = Unit {0}
@@ -285,38 +208,10 @@ pub record ObjLocks (lock : ℕ → ℕ) (lanes : ℕ → Updater) : Type 0 wher
   pub his : (k l : ℕ) → lock k ≡ suc l → (l < 8) × ((T (ownHeld (lanes l .stage)) × (lanes l .oid ≡ k)) ⊎ (T (movHeld (lanes l .stage)) × (mv (lanes l .oid) (lanes l .stage) ≡ k)))
 
 unfoldable pub filling : Stage → Bool
-filling Idle = false
-filling TakeObject = false
-filling (LockCell p) = false
-filling (LookLast p) = false
-filling (CopyLast p m) = false
-filling (LowerCount p m) = false
-filling (ReturnBucket p m b) = false
-filling (ErasePlace p m) = false
-filling ChooseCell = false
-filling MakeRoom = false
-filling WriteTuple = true
-filling (RaiseCount p) = true
-filling (SwitchPlace p) = false
-filling (DeleteOld p) = false
-filling ReleaseObject = false
+filling s = row s .fills
 
 unfoldable pub draws : Stage → ℕ
-draws Idle = 0
-draws TakeObject = 2
-draws (LockCell p) = 2
-draws (LookLast p) = 2
-draws (CopyLast p m) = 2
-draws (LowerCount p m) = 2
-draws (ReturnBucket p m b) = 2
-draws (ErasePlace p m) = 2
-draws ChooseCell = 2
-draws MakeRoom = 2
-draws WriteTuple = 2
-draws (RaiseCount p) = 1
-draws (SwitchPlace p) = 1
-draws (DeleteOld p) = 1
-draws ReleaseObject = 0
+draws s = row s .draws
 
 -- a bucket of a chain has a tuple, unless its cell's holder is about to write one
 pub record Filled (own : ℕ → Owner) (count cellLock : ℕ → ℕ) (lanes : ℕ → Updater) : Type 0 where
@@ -329,25 +224,33 @@ unfoldable pub stands-in : Option ℕ → ℕ → Bool
 stands-in none b = false
 stands-in (some b′) b = eqb b′ b
 
--- a query stands in a bucket of its cell, or in one just unlinked; the slots it has still to read have been written
+-- a query stands in a bucket of its cell, or in one just unlinked; the slots it has still to read have been written, in that cell
 pub record Standing (own : ℕ → Owner) (tup : ℕ → ℕ → Tuple) (b c left : ℕ) : Type 0 where
   pub h : ℕ
   pub owned : (own b ≡ inChain c h) ⊎ ((l : ℕ) × (own b ≡ unlinked l c h))
   pub few : left ≤ 4
   pub written : (i : ℕ) → i < left → 0 < natAbs (tup b i .time)
+  pub here : (i : ℕ) → i < left → (cellOf (tup b i .x) (tup b i .y) ≡ c) × (tup b i .x < 16384) × (tup b i .y < 16384)
 
 pub record Reading (own : ℕ → Owner) (tup : ℕ → ℕ → Tuple) (readers : ℕ → ℕ) (queries : ℕ → Scanner) : Type 0 where
   pub exact : (b : ℕ) → readers b ≡ sum 4 (λ q. bit (stands-in (queries q .bucket) b))
   pub standing : (q b : ℕ) → q < 4 → queries q .bucket ≡ some b → Standing own tup b (queries q .cell) (queries q .left)
 
--- every slot, live or not
+-- Every slot, live or not: its time is one that a stamp may have, or 0; a flagged one was drawn, so it is not above the clock (a positive one may be: a repair keeps the stamps that it finds); its object is known.
 pub record Young (tup : ℕ → ℕ → Tuple) (known : ℕ → Bool) (clock : ℕ) : Type 0 where
-  pub young : (b i : ℕ) → natAbs (tup b i .time) ≤ clock
+  pub range : (b i : ℕ) → natAbs (tup b i .time) ≤ 2147483647
+  pub young : (b i : ℕ) → T (stood (tup b i .time)) → natAbs (tup b i .time) ≤ clock
   pub heard : (b i : ℕ) → 0 < natAbs (tup b i .time) → T (known (tup b i .oid))
 
--- every live slot's tuple lies in its cell, and has a time
+-- every live slot's tuple lies in its cell, has a time, and is on the grid
 pub record Placed (own : ℕ → Owner) (count : ℕ → ℕ) (tup : ℕ → ℕ → Tuple) : Type 0 where
-  pub inside : (b c h i : ℕ) → own b ≡ inChain c h → i < count b → (cellOf (tup b i .x) (tup b i .y) ≡ c) × (0 < natAbs (tup b i .time))
+  pub inside : (b c h i : ℕ) → own b ≡ inChain c h → i < count b → (cellOf (tup b i .x) (tup b i .y) ≡ c) × (0 < natAbs (tup b i .time)) × (tup b i .x < 16384) × (tup b i .y < 16384)
+
+-- the numbers of the chains' tables are in their ranges, whether the bucket is in a chain or not
+pub record Bounded (first next count : ℕ → ℕ) : Type 0 where
+  pub firsts : (c : ℕ) → first c ≤ 512
+  pub nexts : (b : ℕ) → next b ≤ 512
+  pub counts : (b : ℕ) → count b ≤ 4
 
 -- the tuple that stage 10 wrote, not yet counted, is at the reported place
 pub record Written (tup : ℕ → ℕ → Tuple) (lanes : ℕ → Updater) : Type 0 where
@@ -355,14 +258,23 @@ pub record Written (tup : ℕ → ℕ → Tuple) (lanes : ℕ → Updater) : Typ
 
 -- the clock has room for every draw to come
 pub record Ticks (clock : ℕ) (lanes : ℕ → Updater) : Type 0 where
-  pub left : clock + sum 8 (λ l. draws (lanes l .stage)) ≤ 2147483616
+  pub left : clock + sum 8 (λ l. draws (lanes l .stage)) ≤ 2147483647
 
--- the known objects, numbered
+-- the objects of a class, numbered below 256
+pub record Numbered (C : ℕ → Type 0) : Type 0 where
+  pub rank : ℕ → ℕ
+  pub low : (k : ℕ) → C k → rank k < 256
+  pub one : (j k : ℕ) → C j → C k → rank j ≡ rank k → j ≡ k
+
+-- the known objects, numbered below their number
 pub record Ranked (known : ℕ → Bool) (size : ℕ) : Type 0 where
   pub rank : ℕ → ℕ
   pub low : (k : ℕ) → T (known k) → rank k < size
   pub one : (j k : ℕ) → T (known j) → T (known k) → rank j ≡ rank k → j ≡ k
   pub most : size ≤ 256
+
+pub numbered : {known : ℕ → Bool} {size : ℕ} → Ranked known size → Numbered (λ k. T (known k))
+numbered R = record { rank = R .rank; low = λ k t. omega (arith, R .low k t, R .most); one = R .one }
 
 pub record Inv {O : StoreOps} (S : Store O) (g : Ghost) (d : St) : Type 0 where
   pub links : Links (g .own) (g .height) (d .first) (d .next)
@@ -376,6 +288,7 @@ pub record Inv {O : StoreOps} (S : Store O) (g : Ghost) (d : St) : Type 0 where
   pub ticks : Ticks (d .clock) (d .lanes)
   pub young : Young (d .tup) (d .known) (d .clock)
   pub loose : Loose (g .own) (d .next) (d .count)
+  pub bounded : Bounded (d .first) (d .next) (d .count)
   pub reading : Reading (g .own) (d .tup) (d .readers) (d .queries)
   pub placed : Placed (g .own) (d .count) (d .tup)
   pub written : Written (d .tup) (d .lanes)

@@ -1,4 +1,5 @@
 pub mod Ahead
+pub mod Atrest
 pub mod Cells
 pub mod Common
 pub mod Dry

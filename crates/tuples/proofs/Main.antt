@@ -19,6 +19,7 @@ use Rattle.stage.specs.declared.Stage.the-variants.{Idle, TakeObject, LockCell,
 use Rattle.stage.specs.declared.Updater.{Updater}
 use Rattle.stage.specs.Turn.{isIdle}
 use Rattle.machine.specs.Machine.{St, Out, withLanes, withKnown, withSize, begin, doStage}
+use Rattle.machine.proofs.StageFits.{stage-fits}
 use Rattle.cells.proofs.Chains.{inPool}
 use Rattle.tuples.proofs.Inv.{Kind, kCur, kPrev, kNew, kDup, sel, mk, Ok, ownHeld, movHeld, celHeld, mv, cl, goal, bk, filling, Ghost, Ranked, draws, Inv, stands-in}
 use Rattle.tuples.proofs.Slots.{learn}
@@ -67,21 +68,7 @@ T-stable false t = t
 
 draws-2 : (s : Stage) → draws s ≤ 2
 unfolding draws
-draws-2 Idle = omega arith
-draws-2 TakeObject = omega arith
-draws-2 (LockCell p) = omega arith
-draws-2 (LookLast p) = omega arith
-draws-2 (CopyLast p m) = omega arith
-draws-2 (LowerCount p m) = omega arith
-draws-2 (ReturnBucket p m b) = omega arith
-draws-2 (ErasePlace p m) = omega arith
-draws-2 ChooseCell = omega arith
-draws-2 MakeRoom = omega arith
-draws-2 WriteTuple = omega arith
-draws-2 (RaiseCount p) = omega arith
-draws-2 (SwitchPlace p) = omega arith
-draws-2 (DeleteOld p) = omega arith
-draws-2 ReleaseObject = omega arith
+draws-2 s = stage-fits s .few
 
 pub draws-16 : (lanes : ℕ → Updater) → sum 8 (λ l. draws (lanes l .stage)) ≤ 16
 draws-16 lanes = omega (arith, sum-le 8 (λ l. draws (lanes l .stage)) (λ _. 2) (λ i _. draws-2 (lanes i .stage)), sum-const 8 2)
@@ -136,9 +123,10 @@ module _ {O : StoreOps} {S : Store O} {g : Ghost} {d : St} (I : Inv S g d) (l : 
         ok = oks a L refl (I .cells) (I .objs) (I .ok) tt;
         written = writes a L refl (I .cells) (I .ok) (I .written) (λ q z. clash (cc));
         ticks = record { left = omega (arith, draws-16 (upd (d .lanes) l a)) };
-        young = record { young = I .young .young; heard = λ b i h. more _ (I .young .heard b i h) };
+        young = record { range = I .young .range; young = I .young .young; heard = λ b i h. more _ (I .young .heard b i h) };
         placed = I .placed;
         loose = I .loose;
+        bounded = I .bounded;
         reading = I .reading;
         ranks = ranked (d .known) (d .size) (I .ranks) k room;
         lanes = record {

@@ -26,11 +26,11 @@ use Rattle.cells.proofs.Chains.{inChain}
 use Rattle.tuples.proofs.Inv.{Pos, Kind, kCur, kPrev, kNew, kDup, sel, mk, pl, plain, Fit, Outside, Ok, ownHeld, movHeld, celHeld, mv, cl, goal, bk, filling, Ghost, draws, Inv}
 use Rattle.tuples.proofs.Slots.{Lose, put-same, put-else, slot-or, retup, add}
 use Rattle.tuples.proofs.Local.{Local, freed}
-use Rattle.tuples.proofs.Common.{fit-same, fits-upd, oks, writes, lanes-step, filled-step, back-quiet, ticks-step, timed, young-put, placed-same, reading-step, written-put}
+use Rattle.tuples.proofs.Common.{fit-same, fits-upd, oks, writes, lanes-step, filled-step, back-quiet, ticks-step, timed, young-put, placed-same, most-upd, reading-step, written-put}
 use Rattle.tuples.proofs.Facts.{cell-locked, tall-first, first-not, at-stage, own-locked, other-cell, lane-known}
 use Rattle.tuples.proofs.Moves.{cells-keep, objs-keep, loose-apart}
 use Rattle.cells.proofs.Counts.{full-count, loose-count}
-use Rattle.tuples.proofs.Stage8.{stands-suc, clock<}
+use Rattle.tuples.proofs.Stage8.{stands-suc, clock-below, clock<}
 use Rattle.tuples.proofs.Fresh.{aim}
 use Rattle.machine.specs.History.{spotOf}
 use Rattle.tuples.proofs.Effect.{Effect, Source, written, says-eq, goes-same, main-or, puts, told-stands, met-count}
@@ -89,8 +89,9 @@ module _ {O : StoreOps} {S : Store O} {g : Ghost} {d : St} (I : Inv S g d) (l : 
           written = writes (to (d .lanes l) (RaiseCount (pl c f n))) L refl (I .cells) (I .ok) (I .written) (λ q z. let y : pl c f n ≡ q = cc in rw (← y, put-same (d .tup) f n v) (refl, refl));
           ranks = I .ranks;
           loose = I .loose;
-          reading = reading-step (λ b q c h₁ _ _ o. o) (written-put (d .tup) f n v (omega arith)) (I .reading);
-          young = young-put (suc (d .clock)) f n v (omega arith) (omega arith) (λ _. lane-known I l l< (λ z. clash (cc))) (I .young);
+          bounded = I .bounded;
+          reading = reading-step (λ b q c h₁ _ _ o. o) (written-put (g .own) (d .tup) f n v c (H .h) (H .owned) (omega arith) (let fine = I .lanes .fine l l< (λ z. clash (cc)) in (refl, fine .1, fine .2))) (I .reading);
+          young = young-put (suc (d .clock)) f n v (omega arith) (omega (arith, clock-below I l l< (rw st (omega arith)))) (λ _. omega arith) (λ _. lane-known I l l< (λ z. clash (cc))) (I .young);
           placed = placed-same keeps (I .placed);
           ticks = ticks-step (to (d .lanes l) (RaiseCount (pl c f n))) l< (rw st (omega arith)) (I .ticks);
           lanes = lanes-step (RaiseCount (pl c f n)) l< (λ z. clash (cc)) (I .lanes);
@@ -101,10 +102,10 @@ module _ {O : StoreOps} {S : Store O} {g : Ghost} {d : St} (I : Inv S g d) (l : 
         }
 
     pub keeps10 : Ends (λ (r : Out). (g′ : Ghost) × Inv S g′ (r .0) × Effect l g d g′ (r .0)) ⊥ (stage10 l (d .lanes l) d)
-    unfolding stage10 Ok mv cl bk
+    unfolding stage10 Ok mv cl bk draws
     keeps10 =
         let w = at-stage I l l< WriteTuple st in
-        ends-must _ _ (lt→ltb _ _ (w .2)) (ends-must _ _ (lt→ltb _ _ (w .3)) (ends-must _ _ (clock< I) (done (
+        ends-must _ _ (lt→ltb _ _ (w .2)) (ends-must _ _ (lt→ltb _ _ (w .3)) (ends-must _ _ (clock< I l l< (rw st (omega arith))) (done (
           g,
           inv10 (w .0) (w .1) (w .2) (w .3),
           puts l g d after (g .gh) f n v (λ j κ mn r z. z) (λ _. refl) (λ _. refl) (λ _ _. refl) (λ s le. told-stands s _ (stands-suc (d .clock))) (λ q₁. written refl refl),
@@ -147,6 +148,10 @@ module _ {O : StoreOps} {S : Store O} {g : Ghost} {d : St} (I : Inv S g d) (l : 
       unfolding Ok mv cl bk sel celHeld ownHeld movHeld filling draws
       inv11 c< =
           let H = tall-first I c c< f< in
+          let fine = I .lanes .fine l l< (λ z. clash (cc)) in
+          let at-place = I .written .filled l l< p st in
+          let x< : d .tup (p .bucket) (p .slot) .x < 16384 = rw (at-place .0) (fine .1) in
+          let y< : d .tup (p .bucket) (p .slot) .y < 16384 = rw (at-place .1) (fine .2) in
           let lockK = own-locked I l l< (RaiseCount p) st tt in
           let owned : g .own (p .bucket) ≡ inChain (p .cell) (H .h) = rw (bf, pc) (H .owned) in
           let cn : d .count (p .bucket) ≡ p .slot = rw (bf, sn) in
@@ -172,17 +177,19 @@ module _ {O : StoreOps} {S : Store O} {g : Ghost} {d : St} (I : Inv S g d) (l : 
               prevs = λ r z _. clash (cc);
               unflagged = λ r z z′. clash (cc);
               far = λ r r′ z z′. clash (cc);
+              pair = λ r z. clash (cc);
             });
             free = freed L (λ j z z′. z′) (λ j z z′. absurd (omega arith)) (I .free);
             ok = oks (to (d .lanes l) (SwitchPlace p)) L refl (I .cells) (I .objs) (I .ok) (upd-same (g .gh) k g′, out, pc);
             written = writes (to (d .lanes l) (SwitchPlace p)) L refl (I .cells) (I .ok) (I .written) (λ q z. clash (cc));
             ranks = I .ranks;
             loose = loose-count (p .bucket) (suc (d .count (p .bucket))) (λ b l′ c′ h′ o. loose-apart I l l< (RaiseCount p) st tt (λ p′ m′ b′ e. clash (cc)) b l′ c′ h′ (p .bucket) (H .h) o (rw bf (H .owned))) (I .loose);
+            bounded = record { firsts = I .bounded .firsts; nexts = I .bounded .nexts; counts = most-upd (d .count) 4 (p .bucket) (suc (d .count (p .bucket))) (I .bounded .counts) (omega (arith, cn, sn, n<)) };
             reading = I .reading;
             young = I .young;
             placed = record {
               inside = λ b c′ h i o lt. slot-or (p .bucket) (p .slot) b i
-                  (λ e₁ e₂. let ww : inChain (p .cell) (H .h) ≡ inChain c′ h = cc in let w′ : p .cell ≡ c′ = cc in rw (e₁, e₂, bf, sn) (here ∙ sym pc ∙ w′, timed (d .tup f n .time) pos′))
+                  (λ e₁ e₂. let ww : inChain (p .cell) (H .h) ≡ inChain c′ h = cc in let w′ : p .cell ≡ c′ = cc in rw (e₁, e₂, bf, sn) (here ∙ sym pc ∙ w′, timed (d .tup f n .time) pos′, rw (bf, sn) at x<, rw (bf, sn) at y<))
                   (λ ne. I .placed .inside b c′ h i o (at-or b (p .bucket)
                   (λ e. let lt′ : i < suc (d .count (p .bucket)) = rw (e, upd-same (d .count) (p .bucket) (suc (d .count (p .bucket)))) at lt in let nn = ne e in rw e (omega arith))
                   (λ e. rw (upd-other (d .count) (p .bucket) (suc (d .count (p .bucket))) b e) at lt)));

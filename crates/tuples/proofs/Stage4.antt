@@ -122,9 +122,10 @@ module _ {O : StoreOps} {S : Store O} {g : Ghost} {d : St} (I : Inv S g d) (l : 
         written = writes (to (d .lanes l) (LowerCount p m)) L refl (I .cells) (I .ok) (I .written) (λ q z. clash (cc));
         ranks = I .ranks;
         loose = I .loose;
-        reading = reading-step (λ b q c h₁ _ _ o. o) (written-put (d .tup) (p .bucket) (p .slot) (d .tup f (n - 1)) (I .placed .inside f (p .cell) (h .tall .h) (n - 1) (h .tall .owned) (omega (arith, h .n>)) .1)) (I .reading);
-        young = young-put (d .clock) (p .bucket) (p .slot) (d .tup f (n - 1)) (omega arith) (I .young .young _ _) (I .young .heard _ _) (I .young);
-        placed = (let u = I .placed .inside f (p .cell) (h .tall .h) (n - 1) (h .tall .owned) (omega (arith, h .n>)) in placed-put p (h .pLives .h) (d .tup f (n - 1)) (h .pLives .owned) (u .0) (u .1) (I .placed));
+        bounded = I .bounded;
+        reading = reading-step (λ b q c h₁ _ _ o. o) (let u = I .placed .inside f (p .cell) (h .tall .h) (n - 1) (h .tall .owned) (omega (arith, h .n>)) in written-put (g .own) (d .tup) (p .bucket) (p .slot) (d .tup f (n - 1)) (p .cell) (h .pLives .h) (h .pLives .owned) (u .1) (u .0, u .2, u .3)) (I .reading);
+        young = young-put (d .clock) (p .bucket) (p .slot) (d .tup f (n - 1)) (omega arith) (I .young .range _ _) (I .young .young _ _) (I .young .heard _ _) (I .young);
+        placed = (let u = I .placed .inside f (p .cell) (h .tall .h) (n - 1) (h .tall .owned) (omega (arith, h .n>)) in placed-put p (h .pLives .h) (d .tup f (n - 1)) (h .pLives .owned) (u .0) (u .1) (u .2) (u .3) (I .placed));
         ticks = ticks-step (to (d .lanes l) (LowerCount p m)) l< (rw st (omega arith)) (I .ticks);
         lanes = lanes-step (LowerCount p m) l< (λ e. clash (cc)) (I .lanes);
         cells = cells-step (to (d .lanes l) (LowerCount p m)) l< (still l _) (cell-locked I l l< (CopyLast p m) st) (cell-his I l l< (CopyLast p m) st) (I .cells);
@@ -194,7 +195,7 @@ module _ {O : StoreOps} {S : Store O} {g : Ghost} {d : St} (I : Inv S g d) (l : 
             (retup s₁ (λ b c h′ i o lt. ap (λ (z : Tuple). z .oid) (same b i)))
             (record {
               fit = λ j. fit-same (λ κ r z. ap (λ (z : Tuple). z .time) (same _ _)) ((fits-upd k g₁ (I .fits)
-                  (record { curs = F .curs; news = λ r z. clash (cc); prevs = λ r z _. clash (cc); unflagged = λ r z _. clash (cc); far = λ r r′ z z′. clash (cc) })) .fit j);
+                  (record { curs = F .curs; news = λ r z. clash (cc); prevs = λ r z _. clash (cc); unflagged = λ r z _. clash (cc); far = λ r r′ z z′. clash (cc); pair = λ r z. clash (cc) })) .fit j);
             })
             (λ j n₁ n₂. sym (upd-other (g .gh) k g₁ j n₁))
             (Lowering.same e (rw (upd-same (g .gh) k g₁, ← pq))),
@@ -262,6 +263,7 @@ module _ {O : StoreOps} {S : Store O} {g : Ghost} {d : St} (I : Inv S g d) (l : 
                 prevs = λ r z _. clash (cc);
                 unflagged = λ r z _. clash (cc);
                 far = λ r r′ z z′. clash (cc);
+                pair = λ r z. clash (cc);
               }))
               (λ e′. rw (upd-other (g .gh) k gk₁ j e′) (fit-put (I .slots) (p .bucket) (p .slot) (d .tup f (n - 1)) j (λ z. e′ (sym z ∙ h .pOid)) (I .fits .fit j)))));
         }
@@ -321,6 +323,7 @@ module _ {O : StoreOps} {S : Store O} {g : Ghost} {d : St} (I : Inv S g d) (l : 
                 prevs = λ r e b. rw (reads kPrev r (rw (h .gm) e)) (F-m .prevs r e b);
                 unflagged = λ r e b. clash (cc);
                 far = λ r r′ e e′. let w : p ≡ r = cc in rw (← w) (F-m .far q r′ z e′);
+                pair = λ r e w. clash (cc);
               }))
               (elsewhere g₃)
               (Lowering.other ne (at-k g₃) (movedCur (upd-same gh₂ m g₃))),
@@ -341,6 +344,7 @@ module _ {O : StoreOps} {S : Store O} {g : Ghost} {d : St} (I : Inv S g d) (l : 
                 prevs = λ r e b. let w : p ≡ r = cc in rw (← w, put-same (d .tup) (p .bucket) (p .slot) (d .tup f (n - 1))) (F-m .prevs q z refl);
                 unflagged = λ r e b. clash (cc);
                 far = λ r r′ e e′. let w : p ≡ r′ = cc in rw (← w) (F-m .far r q e z);
+                pair = λ r e. F-m .pair q z;
               }))
               (elsewhere g₃)
               (Lowering.other ne (at-k g₃) (movedPrev (upd-same gh₂ m g₃))),

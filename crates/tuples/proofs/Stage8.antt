@@ -25,6 +25,7 @@ use Rattle.layout.specs.Place.{cellOf}
 use Rattle.slots.specs.Tuple.{Tuple}
 use Rattle.stage.specs.declared.Stage.the-variants.{ChooseCell, MakeRoom, DeleteOld, ReleaseObject}
 use Rattle.machine.specs.Machine.{St, Out, put, to, inCell, putLane, withCellLock, withTup, withClock, noPrev, flagged, stage8, stage13}
+use Rattle.machine.specs.Sums.{sum-term}
 use Rattle.tuples.proofs.Inv.{kCur, kPrev, sel, mk, plain, Lives, Fit, topOf, Outside, Ok, ownHeld, movHeld, celHeld, mv, cl, goal, bk, filling, Ghost, draws, Inv}
 use Rattle.tuples.proofs.Slots.{put-same, put-else, slot-or, same-place, retup, rename}
 use Rattle.tuples.proofs.Local.{Local, freed}
@@ -49,8 +50,12 @@ module _ {O : StoreOps} {S : Store O} {g : Ghost} {d : St} (I : Inv S g d) (q : 
       let w = put-else (d .tup) (q .bucket) (q .slot) v (d .first c) (d .count (d .first c)) (λ e₁ e₂. let lt = live .low in let z : d .count (d .first c) ≡ d .count (q .bucket) = rw e₁ in omega arith) in
       rw (oids (d .first c) (d .count (d .first c) - 1), w)
 
-pub clock< : {O : StoreOps} {S : Store O} {g : Ghost} {d : St} → Inv S g d → T (ltb (d .clock) 2147483647)
-clock< {d} I = lt→ltb (d .clock) 2147483647 (omega (arith, I .ticks .left))
+-- the clock has room for the draw of a lane that is to draw
+pub clock-below : {O : StoreOps} {S : Store O} {g : Ghost} {d : St} → Inv S g d → (l : ℕ) → l < 8 → 0 < draws (d .lanes l .stage) → d .clock < 2147483647
+clock-below {d} I l l< h = omega (arith, I .ticks .left, sum-term 8 (λ l. draws (d .lanes l .stage)) l l<)
+
+pub clock< : {O : StoreOps} {S : Store O} {g : Ghost} {d : St} → Inv S g d → (l : ℕ) → l < 8 → 0 < draws (d .lanes l .stage) → T (ltb (d .clock) 2147483647)
+clock< {d} I l l< h = lt→ltb (d .clock) 2147483647 (clock-below I l l< h)
 
 inCell-yes : (o : Option Place) (c : ℕ) (p : Place) → inCell o c ≡ some p → (o ≡ some p) × (p .cell ≡ c)
 unfolding inCell pick
@@ -116,6 +121,7 @@ module _ {O : StoreOps} {S : Store O} {g : Ghost} {d : St} (I : Inv S g d) (l : 
                   prevs = λ r z _. let x : q ≡ r = cc (w .0) in rw (← x, put-same (d .tup) (q .bucket) (q .slot) v) tt;
                   unflagged = λ r z z′. clash (cc);
                   far = F .far;
+                  pair = F .pair;
                 }))
                 (λ e. rw (upd-other (g .gh) k g₁ j e) (fit-put (I .slots) (q .bucket) (q .slot) v j (λ z. e (sym z ∙ t .1)) (I .fits .fit j)));
           };
@@ -124,9 +130,10 @@ module _ {O : StoreOps} {S : Store O} {g : Ghost} {d : St} (I : Inv S g d) (l : 
           written = writes (to (d .lanes l) ReleaseObject) L refl (I .cells) (I .ok) (I .written) (λ q z. clash (cc));
           ranks = I .ranks;
           loose = I .loose;
-          reading = reading-step (λ b q c h₁ _ _ o. o) (written-put (d .tup) (q .bucket) (q .slot) v (omega arith)) (I .reading);
-          young = young-put (suc (d .clock)) (q .bucket) (q .slot) v (omega arith) (omega arith) (λ _. rw (t .1) (t .2)) (I .young);
-          placed = (let u = I .placed .inside (q .bucket) (q .cell) (t .0 .h) (q .slot) (t .0 .owned) (t .0 .low) in placed-put q (t .0 .h) v (t .0 .owned) (u .0) (omega arith) (I .placed));
+          bounded = I .bounded;
+          reading = reading-step (λ b q c h₁ _ _ o. o) (written-put (g .own) (d .tup) (q .bucket) (q .slot) v (q .cell) (t .0 .h) (t .0 .owned) (omega arith) (let u = I .placed .inside (q .bucket) (q .cell) (t .0 .h) (q .slot) (t .0 .owned) (t .0 .low) in (u .0, u .2, u .3))) (I .reading);
+          young = young-put (suc (d .clock)) (q .bucket) (q .slot) v (omega arith) (omega (arith, clock-below I l l< (rw st (omega arith)))) (λ _. omega arith) (λ _. rw (t .1) (t .2)) (I .young);
+          placed = (let u = I .placed .inside (q .bucket) (q .cell) (t .0 .h) (q .slot) (t .0 .owned) (t .0 .low) in placed-put q (t .0 .h) v (t .0 .owned) (u .0) (omega arith) (u .2) (u .3) (I .placed));
           ticks = ticks-step (to (d .lanes l) ReleaseObject) l< (rw st (omega arith)) (I .ticks);
           lanes = lanes-step ReleaseObject l< (λ z. clash (cc)) (I .lanes);
           cells = cells-keep I l l< (DeleteOld q) ReleaseObject st refl refl;
@@ -135,7 +142,7 @@ module _ {O : StoreOps} {S : Store O} {g : Ghost} {d : St} (I : Inv S g d) (l : 
           back = back-quiet ReleaseObject l< (λ p′ m′ b′ z. clash (cc)) (I .back);
         } in
         let sp : T (stands (d .tup (q .bucket) (q .slot) .time)) = F .unflagged q (w .0) refl in
-        ends-must _ _ (clock< I) (done (
+        ends-must _ _ (clock< I l l< (rw st (omega arith))) (done (
           gg,
           inv,
           puts l g d d₁ (upd (g .gh) k g₁) (q .bucket) (q .slot) v
@@ -158,6 +165,7 @@ module _ {O : StoreOps} {S : Store O} {g : Ghost} {d : St} (I : Inv S g d) (l : 
     over p pe gk np pc =
         let v : Tuple = record { oid = d .tup (p .bucket) (p .slot) .oid; x = d .lanes l .x; y = d .lanes l .y; time = pos (suc (d .clock)) } in
         let t = I .slots .back kCur k p (rw gk pe) in
+        let fine = I .lanes .fine l l< (λ z. clash (cc)) in
         let lockK = own-locked I l l< ChooseCell st tt in
         let L : Local l g d g (putLane l (d .lanes l) ReleaseObject (withClock (withTup d (put (d .tup) (p .bucket) (p .slot) v)) (suc (d .clock)))) =
         record {
@@ -180,6 +188,7 @@ module _ {O : StoreOps} {S : Store O} {g : Ghost} {d : St} (I : Inv S g d) (l : 
                   prevs = λ r z _. clash (cc);
                   unflagged = λ r z z′. clash (cc);
                   far = λ r r′ z z′. clash (cc);
+                  pair = λ r z. clash (cc);
                 }))
                 (λ e. fit-put (I .slots) (p .bucket) (p .slot) v j (λ z. e (sym z ∙ t .1)) (I .fits .fit j));
           };
@@ -188,9 +197,10 @@ module _ {O : StoreOps} {S : Store O} {g : Ghost} {d : St} (I : Inv S g d) (l : 
           written = writes (to (d .lanes l) ReleaseObject) L refl (I .cells) (I .ok) (I .written) (λ q z. clash (cc));
           ranks = I .ranks;
           loose = I .loose;
-          reading = reading-step (λ b q c h₁ _ _ o. o) (written-put (d .tup) (p .bucket) (p .slot) v (omega arith)) (I .reading);
-          young = young-put (suc (d .clock)) (p .bucket) (p .slot) v (omega arith) (omega arith) (λ _. rw (t .1) (t .2)) (I .young);
-          placed = placed-put p (t .0 .h) v (t .0 .owned) (sym pc) (omega arith) (I .placed);
+          bounded = I .bounded;
+          reading = reading-step (λ b q c h₁ _ _ o. o) (written-put (g .own) (d .tup) (p .bucket) (p .slot) v (p .cell) (t .0 .h) (t .0 .owned) (omega arith) (sym pc, fine .1, fine .2)) (I .reading);
+          young = young-put (suc (d .clock)) (p .bucket) (p .slot) v (omega arith) (omega (arith, clock-below I l l< (rw st (omega arith)))) (λ _. omega arith) (λ _. rw (t .1) (t .2)) (I .young);
+          placed = placed-put p (t .0 .h) v (t .0 .owned) (sym pc) (omega arith) (fine .1) (fine .2) (I .placed);
           ticks = ticks-step (to (d .lanes l) ReleaseObject) l< (rw st (omega arith)) (I .ticks);
           lanes = lanes-step ReleaseObject l< (λ z. clash (cc)) (I .lanes);
           cells = cells-keep I l l< ChooseCell ReleaseObject st refl refl;
@@ -216,6 +226,7 @@ module _ {O : StoreOps} {S : Store O} {g : Ghost} {d : St} (I : Inv S g d) (l : 
           written = writes (to (d .lanes l) MakeRoom) L refl (I .cells) (I .ok) (I .written) (λ q z. clash (cc));
           ranks = I .ranks;
           loose = I .loose;
+          bounded = I .bounded;
           reading = I .reading;
           young = I .young;
           placed = I .placed;
@@ -235,12 +246,12 @@ module _ {O : StoreOps} {S : Store O} {g : Ghost} {d : St} (I : Inv S g d) (l : 
     own-cur gk p e = rw gk e
 
     pub keeps8 : Ends (λ (r : Out). (g′ : Ghost) × Inv S g′ (r .0) × Effect l g d g′ (r .0)) ⊥ (stage8 l (d .lanes l) d)
-    unfolding stage8 Ok mv cl bk
+    unfolding stage8 Ok mv cl bk draws
     keeps8 =
         let w = at-stage I l l< ChooseCell st in
         let u = I .lanes .fine l l< (λ z. clash (cc)) in
         ends-must _ _ (u .0) (ends-fork _ _ _
-        (λ p e. ends-must _ _ (clock< I) (done (
+        (λ p e. ends-must _ _ (clock< I l l< (rw st (omega arith))) (done (
           g,
           over p (inCell-yes _ _ p e .0) (w .0) (w .1) (inCell-yes _ _ p e .1),
           puts l g d _ (g .gh) (p .bucket) (p .slot) (over-v p) (λ j κ mn r z. z) (λ _. refl) (λ _. refl) (λ _ _. refl) (λ s le. told-stands s _ (stands-suc (d .clock)))

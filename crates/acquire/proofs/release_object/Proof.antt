@@ -29,11 +29,11 @@ returns : tie.Need-returns
 unfolding turnTells turnLeaves
 returns c =
     let at-free-object = c .before .before .before .before in
-    let s2 = at-free-object .before .before .before in
-    let f = ended-corrupt nothing (withLock (indexAt (now (s2 .args .index)))) _ _ (freeObject _ _)
-    (at-free-object .free-object .ensures ∙ ap (λ (s : Change).
-    (changeSays s2, indexAt (at-free-object .free-object .last .0))) (c .enum-told .given .1)) in
-    rw (end-lost (indexAt (now (s2 .args .index))) (s2 .args .oid) (f .0), f .1)
+    let s = at-free-object .before .before .before in
+    let f = ended-corrupt nothing (withLock (indexAt (now (s .args .index)))) _ _ (freeObject _ _)
+    (at-free-object .free-object .ensures ∙ ap (λ (r : Change).
+    (changeSays r, indexAt (at-free-object .free-object .last .0))) (c .enum-told .given .1)) in
+    rw (end-lost (indexAt (now (s .args .index))) (s .args .oid) (f .0), f .1)
 
 same-length-2 : tie.Need-same-length-2
 same-length-2 c = search needs
@@ -42,11 +42,11 @@ returns-2 : tie.Need-returns-2
 unfolding turnTells turnLeaves
 returns-2 c =
     let at-free-object = c .before .before .before .before in
-    let s2 = at-free-object .before .before .before in
-    let f = ended-done nothing (withLock (indexAt (now (s2 .args .index)))) _ _ (freeObject _ _)
-    (at-free-object .free-object .ensures ∙ ap (λ (s : Change).
-    (changeSays s2, indexAt (at-free-object .free-object .last .0))) (c .enum-told2 .given .1)) in
-    rw (end-done (indexAt (now (s2 .args .index))) (s2 .args .oid) (f .0) (f .1), f .3)
+    let s = at-free-object .before .before .before in
+    let f = ended-done nothing (withLock (indexAt (now (s .args .index)))) _ _ (freeObject _ _)
+    (at-free-object .free-object .ensures ∙ ap (λ (r : Change).
+    (changeSays r, indexAt (at-free-object .free-object .last .0))) (c .enum-told2 .given .1)) in
+    rw (end-done (indexAt (now (s .args .index))) (s .args .oid) (f .0) (f .1), f .3)
 
 pub release-object-spec : {M : Type 1} → statement M
 release-object-spec =
