@@ -4,7 +4,8 @@ use mathlib.Core.List.{List}
 use Prim.Native.Nat.{ℕ}
 use lib.ListN.{length}
 use Rattle.base.specs.Outcome.{Told, Outcome, corrupt, blocked, done, leaves, ended, nothing}
-use Rattle.base.specs.Step.{Said, turned, lift, lifted}
+use Rattle.base.specs.Step.{Said, turned, lift}
+use Rattle.base.proofs.Step.{lifted}
 use Rattle.words.specs.Map.{COUNT}
 use Rattle.words.specs.Part.{part, put}
 use Rattle.index.specs.Index.{Index, indexAt, withLock}

@@ -6,7 +6,8 @@ use Prim.Native.Nat.{ℕ, _≤_, _<_}
 use native.Mathlib.Omega.{arith}
 use lib.IntN.{ℤ}
 use lib.ListN.{length, set, length-set}
-use Rattle.base.specs.Outcome.{Told, Outcome, corrupt, blocked, done, tells, leaves, ended, nothing, ended-corrupt, ended-blocked, ended-done}
+use Rattle.base.specs.Outcome.{Told, Outcome, corrupt, blocked, done, tells, leaves, ended, nothing}
+use Rattle.base.proofs.Outcome.{ended-corrupt, ended-blocked, ended-done}
 use Rattle.base.specs.Answer.{attemptSays, changeSays}
 use Rattle.base.specs.Step.{Said, turned, turnTells, turnLeaves}
 use Rattle.base.specs.declared.Attempt.{Attempt}

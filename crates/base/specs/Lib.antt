@@ -3,5 +3,7 @@ pub mod Lent
 pub mod Lists
 pub mod Outcome
 pub mod Promise
+pub mod Spot
 pub mod Step
+pub mod Sums
 pub mod Table

@@ -5,7 +5,7 @@ use mathlib.Core.Bool.{Bool, true, false, not, _&&_, Bool·not-not}
 use Prim.Native.Nat.{ℕ}
 use Rattle.base.specs.Outcome.{Outcome, corrupt, blocked, done, need, await, pick, andThen}
 use Rattle.base.specs.Step.{Step, lift}
-use Rattle.base.specs.Table.{not-ltb, not-leb}
+use Rattle.base.proofs.Table.{not-ltb, not-leb}
 
 -- the number of a step: broken tables 12, blocked 20, else its own
 unfoldable pub numberOf : {S B : Type 0} → Outcome (Step S B) → ℕ

@@ -9,8 +9,10 @@ use Prim.Native.Nat.{ℕ, _+_, _≤_, _<_}
 use lib.IntN.{ℤ}
 use lib.ListN.{length}
 use borrow.Author.Tests.{eq-eqb, ne-eqb, le-ltb, lt-ltb}
-use Rattle.base.specs.Outcome.{Told, says, Outcome, corrupt, blocked, done, need, pick, andThen, tells, ended, nothing, ended-corrupt, ended-done}
-use Rattle.base.specs.Step.{Said, said, turned, turnTells, turnLeaves, lift, lifted}
+use Rattle.base.specs.Outcome.{Told, says, Outcome, corrupt, blocked, done, need, pick, andThen, tells, ended, nothing}
+use Rattle.base.proofs.Outcome.{ended-corrupt, ended-done}
+use Rattle.base.specs.Step.{Said, said, turned, turnTells, turnLeaves, lift}
+use Rattle.base.proofs.Step.{lifted}
 use Rattle.words.specs.Map.{WORDS, CURRENT}
 use Rattle.words.specs.Part.{part}
 use Rattle.words.specs.Words.{cellsIn, putCells}

@@ -6,7 +6,8 @@ use Prim.Native.Nat.{ℕ, _+_, _≤_, _<_}
 use lib.IntN.{ℤ}
 use lib.ListN.{length, set}
 use borrow.Author.Tests.{le-ltb, lt-ltb}
-use Rattle.base.specs.Outcome.{says, corrupt, done, need, andThen, nothing, ended, ended-corrupt, ended-done}
+use Rattle.base.specs.Outcome.{says, corrupt, done, need, andThen, nothing, ended}
+use Rattle.base.proofs.Outcome.{ended-corrupt, ended-done}
 use Rattle.base.specs.Step.{said, turned}
 use Rattle.words.specs.Map.{CLOCK, WORDS}
 use Rattle.layout.specs.declared.place.Place.{Place}

@@ -2,8 +2,9 @@
 use mathlib.Core.Path.{_≡_, refl, ap, _∙_}
 use mathlib.Core.Option.{none, some}
 use mathlib.Core.List.{List, []}
-use Rattle.base.specs.Outcome.{says, done, andThen, nothing, ended, ended-corrupt}
-use Rattle.base.specs.Answer.{changed-done}
+use Rattle.base.specs.Outcome.{says, done, andThen, nothing, ended}
+use Rattle.base.proofs.Outcome.{ended-corrupt}
+use Rattle.base.proofs.Answer.{changed-done}
 use Rattle.base.specs.declared.Change.the-variants.{Done}
 use Rattle.base.specs.Step.{said, turned}
 use Rattle.layout.specs.declared.place.Place.{Place}

@@ -9,7 +9,8 @@ use native.Mathlib.Omega.{arith}
 use lib.IntN.{ℤ}
 use lib.ListN.{length, set}
 use borrow.Author.Tests.{le-ltb, lt-ltb}
-use Rattle.base.specs.Outcome.{Told, Outcome, corrupt, blocked, done, need, pick, andThen, tells, leaves, ended, ended-corrupt, ended-done}
+use Rattle.base.specs.Outcome.{Told, Outcome, corrupt, blocked, done, need, pick, andThen, tells, leaves, ended}
+use Rattle.base.proofs.Outcome.{ended-corrupt, ended-done}
 use Rattle.base.specs.Step.{said, turned}
 use Rattle.words.specs.Map.{CELLS, WORDS}
 use Rattle.words.specs.Words.{indexIn, putIndex}

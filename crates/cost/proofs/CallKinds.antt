@@ -13,7 +13,8 @@ use native.Mathlib.Omega.{arith}
 use lib.Dec.{T}
 use lib.Seq.{getD-set-same, getD-set-other}
 use Rattle.base.specs.Outcome.{pick}
-use Rattle.base.specs.Table.{at, at-or, clash}
+use Rattle.base.specs.Table.{at}
+use Rattle.base.proofs.Table.{at-or, clash}
 use Rattle.stage.specs.Turn.{isIdle}
 use Rattle.query.specs.declared.Scan.the-variants.{Finished}
 use Rattle.queries.specs.Query.{idleQuery, isIdle as isIdleQuery, isFinished}

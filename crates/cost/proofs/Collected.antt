@@ -4,7 +4,7 @@ use mathlib.Core.Path.{_≡_, refl, sym, ap, _∙_}
 use mathlib.Core.Option.{Option, none, some}
 use mathlib.Core.List.{List, [], _∷_}
 use Prim.Native.Nat.{ℕ}
-use Rattle.base.specs.Table.{clash}
+use Rattle.base.proofs.Table.{clash}
 use Rattle.tables.specs.Tables.{Tables}
 use Rattle.calls.specs.Call.{Result, refused, answered, after}
 use Rattle.collect.specs.Collect.{Handed, handedOf, collectQuery}

@@ -13,7 +13,8 @@ use Rattle.base.specs.Lists.{In, Once, more, empty}
 use Rattle.layout.specs.Question.{walk, cellsTouched}
 use Rattle.layout.proofs.Walk.{Proper, Ascending, ends, climbs, walk-ascending, walk-length}
 use Rattle.grid.specs.Run.{Grid}
-use Rattle.machine.specs.Sums.{bit, bit-or}
+use Rattle.base.specs.Sums.{bit}
+use Rattle.base.proofs.Sums.{bit-or}
 use Rattle.cost.specs.Account.{Tally, tallyOf, Found, Sweep, total, visits, Bounded}
 use Rattle.cost.proofs.Count.{times, times-once, times-append, Meets, also, meets-more, OneOf3, Within, only, within-other, few-found}
 use Rattle.cost.proofs.Lies.{May}

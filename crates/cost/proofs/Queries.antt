@@ -12,7 +12,8 @@ use lib.Seq.{getD-set-same, getD-set-other}
 use borrow.Author.Tests.{ltb-true, not-true}
 use Rattle.base.specs.Outcome.{Outcome, corrupt, blocked, done}
 use Rattle.base.specs.Step.{Step}
-use Rattle.base.specs.Table.{at, at-or, upd-same, upd-other, clash}
+use Rattle.base.specs.Table.{at}
+use Rattle.base.proofs.Table.{at-or, upd-same, upd-other, clash}
 use Rattle.layout.specs.declared.question.Question.{Question}
 use Rattle.layout.proofs.Walk.{visited-below}
 use Rattle.readers.specs.declared.Standing.{Standing}

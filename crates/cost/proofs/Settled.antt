@@ -13,7 +13,8 @@ use lib.Dec.{T}
 use lib.ListN.{length}
 use Rattle.base.specs.Lists.{In}
 use Rattle.base.specs.Outcome.{pick}
-use Rattle.base.specs.Table.{at, by-test, clash}
+use Rattle.base.specs.Table.{at}
+use Rattle.base.proofs.Table.{by-test, clash}
 use Rattle.stage.specs.Turn.{isIdle}
 use Rattle.stage.specs.declared.Stage.the-variants.{Idle as IdleStage}
 use Rattle.query.specs.declared.Scan.{Scan}

@@ -8,7 +8,8 @@ use Prim.Native.Nat.{ℕ, _+_, _≤_}
 use lib.Dec.{T}
 use Rattle.base.specs.Lists.{In}
 use Rattle.base.specs.Outcome.{pick}
-use Rattle.base.specs.Table.{at, by-test}
+use Rattle.base.specs.Table.{at}
+use Rattle.base.proofs.Table.{by-test}
 use Rattle.calls.specs.Call.{acceptedNumber}
 use Rattle.grid.specs.Run.{Grid, Call, startUpdate, stepUpdate, startQuery, stepQuery, collect, call, run, emptyGrid}
 use Rattle.runs.specs.Rest.{AtRest}

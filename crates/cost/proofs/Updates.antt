@@ -11,7 +11,8 @@ use lib.Seq.{getD-set-same, getD-set-other}
 use borrow.Author.Tests.{ltb-true, not-true}
 use Rattle.base.specs.Lists.{In, here, there}
 use Rattle.base.specs.Outcome.{Outcome, blocked, done, pick}
-use Rattle.base.specs.Table.{at, at-or, by-test, upd, upd-same, upd-other, clash}
+use Rattle.base.specs.Table.{at, upd}
+use Rattle.base.proofs.Table.{at-or, by-test, upd-same, upd-other, clash}
 use Rattle.layout.specs.Place.{cellOf}
 use Rattle.index.specs.Index.{lookup}
 use Rattle.stage.specs.Turn.{Move, isIdle}

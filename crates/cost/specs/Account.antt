@@ -14,7 +14,7 @@ use Rattle.layout.specs.Question.{walk, cellsTouched}
 use Rattle.layout.specs.declared.question.Question.{Question}
 use Rattle.cells.specs.Walk.{chainOf, tuplesIn}
 use Rattle.calls.specs.Call.{acceptedNumber}
-use Rattle.machine.specs.Sums.{bit, count}
+use Rattle.base.specs.Sums.{bit, count}
 use Rattle.grid.specs.Run.{Grid, Call, startUpdate, stepUpdate, startQuery, stepQuery, collect, Answer, answerOf, call, emptyGrid}
 
 -- ---- WHAT HAPPENED

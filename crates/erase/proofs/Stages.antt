@@ -3,7 +3,8 @@ use mathlib.Core.Path.{_≡_, sym}
 use mathlib.Core.Option.{Option, none, some}
 use mathlib.Core.List.{List, []}
 use Prim.Native.Nat.{ℕ}
-use Rattle.base.specs.Outcome.{says, corrupt, done, andThen, nothing, ended, ended-corrupt, ended-blocked, ended-done}
+use Rattle.base.specs.Outcome.{says, corrupt, done, andThen, nothing, ended}
+use Rattle.base.proofs.Outcome.{ended-corrupt, ended-blocked, ended-done}
 use Rattle.base.specs.Step.{said, turned}
 use Rattle.base.specs.Table.{both}
 use Rattle.layout.specs.declared.place.Place.{Place}

@@ -8,7 +8,7 @@ use lib.ListN.{length, drop, getD}
 use Rattle.base.specs.Lists.{numbersFrom}
 use Rattle.base.specs.Outcome.{pick, one, need, await, andThen}
 use Rattle.layout.specs.Place.{onGrid, cellOf, encode, decode}
-use Rattle.layout.specs.Question.{corners, cornersOn, ordered, inside, visited, next}
+use Rattle.layout.specs.Question.{corners, cornersOn, ordered, inside, visited, next, walk, rowsFrom, columns, rows, cellsTouched}
 use Rattle.index.specs.Search.{start as hash, search, probe, after as after#, known}
 use Rattle.index.specs.Index.{insert, enterAt, empty}
 use Rattle.index.specs.Places.{readPlace, putPlace, erasePlace, shift}
@@ -38,9 +38,8 @@ use Rattle.queries.specs.Query.{queryStart, queryStep, idleQueries, isFinished,
 use Rattle.collect.specs.Collect.{collectQuery, entriesFrom}
 use Rattle.grid.specs.Run.{Grid, emptyGrid, Call, startUpdate, stepUpdate, startQuery, stepQuery, collect, Answer, call, run, answers}
 use Rattle.base.specs.Table.{upd}
-use Rattle.layout.specs.Question.{walk, rowsFrom, columns, rows, cellsTouched}
 use Rattle.cells.specs.Walk.{chainOf, bucketsFrom, inFront, tuplesIn}
-use Rattle.machine.specs.Sums.{sum, bit}
+use Rattle.base.specs.Sums.{sum, bit}
 use Rattle.cost.specs.Account.{Event, history, deed, when, underWay, among, known as knownOf, tally, tallyStep, stepOf, Sweep, sweeps as queriesOf, latest, total}
 
 pub record Row : Type 0 where

@@ -11,7 +11,7 @@ use lib.Dec.{T, lt→ltb}
 use lib.IntN.{ℤ, pos, negsuc, natAbs}
 use lib.ListN.{length}
 use lib.Seq.{getD-set-same, getD-set-other}
-use Rattle.base.specs.Table.{at-or, clash}
+use Rattle.base.proofs.Table.{at-or, clash}
 use Rattle.query.specs.declared.Scan.the-variants.{Finished}
 use Rattle.queries.specs.Query.{idleQuery}
 use Rattle.collect.specs.Collect.{idled}

@@ -12,7 +12,7 @@ use Rattle.runs.proofs.Empty.{all-same, empty-good, empty-unknown}
 use Rattle.runs.proofs.Runs.{call-good}
 use Rattle.runs.proofs.View.{view}
 use Rattle.tuples.proofs.Fresh.{late}
-use Rattle.base.specs.Table.{clash}
+use Rattle.base.proofs.Table.{clash}
 use Rattle.freshness.specs.History.{Event, eventOf, recall, events, past, underWay, standing}
 use Rattle.freshness.proofs.Fine.{Fresh, Fine}
 use Rattle.freshness.proofs.Past.{Valid}

@@ -5,7 +5,7 @@ use mathlib.Core.Bool.{true}
 use mathlib.Core.Option.{some}
 use mathlib.Core.List.{List}
 use Prim.Native.Nat.{ℕ}
-use Rattle.base.specs.Table.{clash}
+use Rattle.base.proofs.Table.{clash}
 use Rattle.layout.specs.declared.question.Question.{Question}
 use Rattle.grid.specs.Run.{Grid, Call, stepQuery, collect, call, run, answers}
 use Rattle.runs.specs.Sweeps.{query}

@@ -15,13 +15,13 @@ use lib.ListN.{length}
 use borrow.Author.Tests.{eq-eqb, ne-eqb, eqb-true, ltb-true}
 use Rattle.base.specs.Lists.{In, in-or, in-none}
 use Rattle.base.specs.Outcome.{pick}
-use Rattle.base.specs.Table.{upd-same, upd-other, at-or, by-test, clash}
+use Rattle.base.proofs.Table.{upd-same, upd-other, at-or, by-test, clash}
 use Rattle.layout.specs.declared.question.Question.{Question}
 use Rattle.calls.specs.Call.{after, unless, acceptedNumber}
 use Rattle.queries.specs.Query.{isIdle as isIdleQuery, isFinished, queryStep}
 use Rattle.grid.specs.Run.{Grid, Call, startUpdate, stepUpdate, startQuery, stepQuery, collect, call, run, answers, emptyGrid}
-use Rattle.machine.specs.History.{Hit, hit, Mem, onTop, deeper}
-use Rattle.machine.specs.Sums.{sum, bit}
+use Rattle.base.specs.Spot.{Hit, hit, Mem, onTop, deeper}
+use Rattle.base.specs.Sums.{sum, bit}
 use Rattle.tuples.proofs.Common.{sum-one}
 use Rattle.runs.specs.Sweeps.{query}
 use Rattle.runs.proofs.Every.{Good, sized}

@@ -10,7 +10,7 @@ use mathlib.Core.List.{List, _∷_}
 use Prim.Native.Nat.{ℕ, zero, suc, _<_}
 use lib.Dec.{T}
 use Rattle.base.specs.Outcome.{Outcome, corrupt, blocked, done}
-use Rattle.base.specs.Table.{clash}
+use Rattle.base.proofs.Table.{clash}
 use Rattle.machine.specs.Store.{StoreOps, Store}
 use Rattle.layout.specs.Place.{decode}
 use Rattle.layout.specs.declared.place.Place.{Place}
@@ -21,7 +21,8 @@ use Rattle.tables.specs.Tables.{Tables}
 use Rattle.grid.specs.Run.{Grid}
 use Rattle.machine.specs.Machine.{St}
 use Rattle.machine.specs.Marks.{stands}
-use Rattle.machine.specs.History.{Spot, spotOf}
+use Rattle.base.specs.Spot.{Spot}
+use Rattle.slots.specs.Spot.{spotOf}
 use Rattle.cells.proofs.Chains.{inChain}
 use Rattle.tuples.proofs.Inv.{kCur, sel, pl, plain, Fit, ownHeld, movHeld, mv, Ghost, Inv}
 use Rattle.tuples.proofs.Facts.{two-kinds}

@@ -10,14 +10,16 @@ use Prim.Native.Nat.{ℕ, _<_}
 use native.Mathlib.Omega.{arith}
 use lib.Dec.{T}
 use Rattle.base.specs.Outcome.{Outcome, corrupt, blocked, done}
-use Rattle.base.specs.Table.{at, clash}
+use Rattle.base.specs.Table.{at}
+use Rattle.base.proofs.Table.{clash}
 use Rattle.layout.specs.Place.{cellOf, decode}
 use Rattle.layout.specs.declared.place.Place.{Place}
 use Rattle.layout.proofs.Places.{decode-range}
 use Rattle.index.specs.Index.{Entry, lookup}
 use Rattle.grid.specs.Run.{Grid}
 use Rattle.tables.specs.Tables.{Tables}
-use Rattle.machine.specs.History.{Spot, spotOf}
+use Rattle.base.specs.Spot.{Spot}
+use Rattle.slots.specs.Spot.{spotOf}
 use Rattle.machine.specs.Marks.{stands}
 use Rattle.runs.specs.Quiet.{tupleOf, positive, HasTuple, SameTuples}
 use Rattle.runs.specs.Reached.{InTheirCells}

@@ -12,7 +12,7 @@ use Rattle.base.specs.Outcome.{pick}
 use Rattle.layout.specs.declared.question.Question.{Question}
 use Rattle.calls.specs.Call.{acceptedNumber}
 use Rattle.grid.specs.Run.{Call, startUpdate, stepUpdate, startQuery, stepQuery, collect, Answer, answers, emptyGrid}
-use Rattle.machine.specs.History.{Spot, Hit, hit}
+use Rattle.base.specs.Spot.{Spot, Hit, hit}
 
 -- ---- events
 

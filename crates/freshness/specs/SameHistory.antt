@@ -11,7 +11,7 @@ use Prim.Native.Nat.{ℕ}
 use lib.ListN.{length}
 use Rattle.base.specs.Lists.{In}
 use Rattle.grid.specs.Run.{Call, stepQuery, emptyGrid}
-use Rattle.machine.specs.History.{Hit, Mem}
+use Rattle.base.specs.Spot.{Hit, Mem}
 use Rattle.cost.specs.Account.{Event as Entry, history, underWay as underWayBy, known, Sweep, sweeps, latest}
 use Rattle.freshness.specs.History.{Event, begins, past, underWay, question, updates}
 use Rattle.freshness.specs.Fresh.{Finishes}

@@ -10,7 +10,8 @@ use Rattle.layout.specs.declared.place.Place.{Place}
 use Rattle.index.specs.Index.{Entry, lookup}
 use Rattle.tables.specs.Tables.{Tables}
 use Rattle.grid.specs.Run.{Grid, Call, answers}
-use Rattle.machine.specs.History.{Spot, spotOf}
+use Rattle.base.specs.Spot.{Spot}
+use Rattle.slots.specs.Spot.{spotOf}
 use Rattle.runs.specs.Quiet.{tupleOf}
 use Rattle.freshness.specs.History.{Event, settles, events}
 

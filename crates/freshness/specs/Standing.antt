@@ -10,7 +10,8 @@ use Rattle.layout.specs.Place.{cellOf, decode}
 use Rattle.layout.specs.declared.place.Place.{Place}
 use Rattle.index.specs.Index.{Entry, lookup}
 use Rattle.tables.specs.Tables.{Tables}
-use Rattle.machine.specs.History.{Spot, spotOf}
+use Rattle.base.specs.Spot.{Spot}
+use Rattle.slots.specs.Spot.{spotOf}
 use Rattle.runs.specs.Quiet.{tupleOf, positive, HasTuple}
 use Rattle.freshness.specs.History.{Event, standing}
 

@@ -7,7 +7,7 @@ use lib.IntN.{ℤ, pos}
 use lib.ListN.{length, replicate}
 use Rattle.base.specs.Lists.{numbersFrom}
 use Rattle.base.specs.Outcome.{corrupt, done}
-use Rattle.base.specs.Table.{clash}
+use Rattle.base.proofs.Table.{clash}
 use Rattle.words.specs.Map.{FIRST, NEXT, POOL, WORDS, TIMES, CURRENT}
 use Rattle.words.specs.Part.{part, put}
 use Rattle.index.specs.Index.{empty}

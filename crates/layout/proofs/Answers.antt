@@ -7,8 +7,9 @@ use native.Mathlib.Omega.{arith}
 use mathlib.Core.Logic.{inl, inr}
 use types.Run.{OneOf}
 use denote.Enum.Declared.{tagOf}
-use Rattle.base.specs.Table.{clash}
-use Rattle.base.specs.Outcome.{Outcome, corrupt, done, tells, says, one, told-corrupt, told-done}
+use Rattle.base.proofs.Table.{clash}
+use Rattle.base.specs.Outcome.{Outcome, corrupt, done, tells, says, one}
+use Rattle.base.proofs.Outcome.{told-corrupt, told-done}
 use Rattle.layout.specs.Place.{placeNumberSays, placeReadSays, placeValues, placeList}
 use Rattle.layout.specs.Question.{visitValues, nextCellSays}
 use Rattle.layout.specs.declared.question.Visit.{Visit}

@@ -7,7 +7,7 @@ use Prim.Native.Nat.{ℕ, _+_, _/_, _%_, _≤_, _<_}
 use native.Mathlib.Omega.{arith}
 use borrow.Author.Tests.{eq-eqb, ne-eqb}
 use Rattle.base.specs.Outcome.{done, need, pick}
-use Rattle.base.specs.Table.{at-or}
+use Rattle.base.proofs.Table.{at-or}
 use Rattle.layout.specs.Place.{cellOf}
 use Rattle.layout.specs.Question.{lastCell, next, rowBelow}
 use Rattle.layout.specs.declared.question.Question.{Question}

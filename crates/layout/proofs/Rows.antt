@@ -7,7 +7,8 @@ use Prim.Native.Nat.{ℕ, zero, suc, _+_, _-_, _*_, _≤_, _<_}
 use native.Mathlib.Nat.{mul-suc}
 use native.Mathlib.Omega.{arith}
 use lib.ListN.{length, length-append}
-use Rattle.base.specs.Lists.{numbersFrom, numbers-in, in-numbers, numbers-length}
+use Rattle.base.specs.Lists.{numbersFrom}
+use Rattle.base.proofs.Lists.{numbers-in, in-numbers, numbers-length}
 use Rattle.layout.specs.Question.{rowsFrom}
 use Rattle.layout.proofs.Order.{In, Ascending, ends, climbs, ascending-append}
 

@@ -11,7 +11,7 @@ use native.Mathlib.Omega.{arith}
 use lib.ListN.{length}
 use lib.Dec.{eqb}
 use Rattle.base.specs.Outcome.{done, corrupt, need, pick}
-use Rattle.base.specs.Table.{at-or, by-test, clash}
+use Rattle.base.proofs.Table.{at-or, by-test, clash}
 use Rattle.layout.specs.Place.{onGrid, cellOf}
 use Rattle.layout.specs.Question.{inside, columns, rows, walk, cellsTouched, firstVisit, lastCell, visited, rowBelow, next}
 use Rattle.layout.specs.declared.question.Question.{Question}

@@ -5,7 +5,8 @@ use mathlib.Core.List.{List}
 use Prim.Native.Nat.{ℕ, _<_, _≤_}
 use lib.ListN.{length, set}
 use borrow.Author.Tests.{ltb-true, eqb-true, lt-ltb, le-leb, ne-eqb}
-use Rattle.base.specs.Outcome.{done, blocked, need, await, andThen, need-done, await-done, then-done, then-true, need-true, done-one}
+use Rattle.base.specs.Outcome.{done, blocked, need, await, andThen}
+use Rattle.base.proofs.Outcome.{need-done, await-done, then-done, then-true, need-true, done-one}
 use Rattle.base.specs.Table.{at}
 use Rattle.locks.specs.Lock.{look, take, release}
 

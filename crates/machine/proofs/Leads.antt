@@ -7,14 +7,15 @@ use mathlib.Core.Option.{Option, none, some}
 use mathlib.Core.List.{List}
 use Prim.Native.Nat.{ℕ}
 use Rattle.base.specs.Lists.{In, here, there}
-use Rattle.base.specs.Table.{upd, upd-same}
+use Rattle.base.specs.Table.{upd}
+use Rattle.base.proofs.Table.{upd-same}
 use Rattle.layout.specs.declared.place.Place.{Place}
 use Rattle.stage.specs.declared.Stage.{Stage}
 use Rattle.stage.specs.declared.Stage.the-variants.{Idle, TakeObject, LockCell, LookLast, CopyLast, LowerCount, ReturnBucket, ErasePlace, ChooseCell, MakeRoom, WriteTuple, RaiseCount, SwitchPlace, DeleteOld, ReleaseObject}
 use Rattle.stage.specs.declared.Updater.{Updater}
 use Rattle.machine.specs.Ends.{Ends, done, ends-need, ends-pick, ends-then}
 use Rattle.machine.specs.Machine.{St, Out, to, fork, stage1, stage2, stage3, stage4, stage5, stage6, stage7, stage8, stage9, takeFirst, stage10, stage11, stage12, stage13, stage14, doStage}
-use Rattle.machine.specs.StageTable.{row}
+use Rattle.stage.specs.StageTable.{row}
 use Rattle.machine.specs.Store.{StoreOps}
 
 -- blocked, or the lane is at one of these stages

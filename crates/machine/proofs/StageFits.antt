@@ -5,10 +5,10 @@ use mathlib.Core.Bool.{Bool, true, false, not, _&&_, _||_}
 use mathlib.Core.Option.{some}
 use Prim.Native.Nat.{ℕ, _≤_}
 use lib.Dec.{T, leb, leb→le}
-use Rattle.base.specs.Table.{clash}
+use Rattle.base.proofs.Table.{clash}
 use Rattle.stage.specs.declared.Stage.{Stage}
 use Rattle.stage.specs.declared.Stage.the-variants.{Idle, TakeObject, LockCell, LookLast, CopyLast, LowerCount, ReturnBucket, ErasePlace, ChooseCell, MakeRoom, WriteTuple, RaiseCount, SwitchPlace, DeleteOld, ReleaseObject}
-use Rattle.machine.specs.StageTable.{BucketUsed, noBucket, firstBucket, bucketAt, Row, row, given, holdsCell, bucketBy}
+use Rattle.stage.specs.StageTable.{BucketUsed, noBucket, firstBucket, bucketAt, Row, row, given, holdsCell, bucketBy}
 
 abbrev implied : Bool → Bool → Bool
 implied a b = not a || b

@@ -2,7 +2,8 @@
 use mathlib.Core.Path.{_≡_, ap}
 use mathlib.Core.List.{List}
 use Prim.Native.Nat.{ℕ}
-use Rattle.base.specs.Outcome.{ended, ended-corrupt, ended-done, done, corrupt, one}
+use Rattle.base.specs.Outcome.{ended, done, corrupt, one}
+use Rattle.base.proofs.Outcome.{ended-corrupt, ended-done}
 use Rattle.pool.specs.Pool.{Took, take, takenSays}
 use Rattle.pool.specs.declared.Taken.{Taken}
 use Rattle.pool.specs.declared.Taken.the-variants.{Corrupt, Bucket}

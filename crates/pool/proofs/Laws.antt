@@ -10,9 +10,12 @@ use lib.ListN.{length, set, length-set, length-append}
 use lib.ListN as list
 use lib.Seq.{getD-set-same, take-suc, take-set-le, take-suc-set, length-take-le, take-at, getD-at}
 use borrow.Author.Tests.{eq-eqb, ne-eqb, lt-ltb, le-leb, eqb-true, eqb-false, ltb-true, leb-true, not-true}
-use Rattle.base.specs.Lists.{In, here, in-none, Once, more, in-or, in-left, in-right, in-append, in-one, once-last, once-front, once-few, numbersFrom, numbers-in, in-numbers, once-numbers, numbers-length, numbers-last}
-use Rattle.base.specs.Outcome.{done, need-done, need-true, done-one}
-use Rattle.base.specs.Table.{at, at-or}
+use Rattle.base.specs.Lists.{In, here, in-none, Once, more, in-or, in-left, in-right, in-append, in-one, numbersFrom}
+use Rattle.base.proofs.Lists.{once-last, once-front, once-few, numbers-in, in-numbers, once-numbers, numbers-length, numbers-last}
+use Rattle.base.specs.Outcome.{done}
+use Rattle.base.proofs.Outcome.{need-done, need-true, done-one}
+use Rattle.base.specs.Table.{at}
+use Rattle.base.proofs.Table.{at-or}
 use Rattle.pool.specs.Pool.{Took, height, withHeight, members, Has, size, take, give, fresh, refill}
 
 -- what a `done` says of the tests on the way

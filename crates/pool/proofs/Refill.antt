@@ -6,7 +6,8 @@ use native.Mathlib.Omega.{arith}
 use native.Mathlib.Numerals.{add-one}
 use lib.ListN.{length, set, take}
 use lib.Seq.{take-suc-set, take-all}
-use Rattle.base.specs.Lists.{numbersFrom, numbers-last}
+use Rattle.base.specs.Lists.{numbersFrom}
+use Rattle.base.proofs.Lists.{numbers-last}
 use Rattle.pool.specs.Pool.{fresh}
 
 pub filled : (l : List ℕ) (i : ℕ) → i < length l → take i l ≡ numbersFrom 0 i → take (i + 1) (set l i i) ≡ numbersFrom 0 (i + 1)

@@ -8,7 +8,8 @@ use lib.Dec.{eqb, ltb, leb}
 use lib.ListN.{length, set}
 use borrow.Author.Tests.{eq-eqb, lt-ltb, le-ltb, leb-true, leb-false}
 use Rattle.base.specs.Outcome.{corrupt, done, need}
-use Rattle.base.specs.Table.{at, not-ltb, not-leb}
+use Rattle.base.specs.Table.{at}
+use Rattle.base.proofs.Table.{not-ltb, not-leb}
 use Rattle.pool.specs.Pool.{Took, height, withHeight, take, give, takeRefused, giveRefused}
 
 module _ {A : Type 0} (k : A) where

@@ -6,7 +6,8 @@ use native.Mathlib.Omega.{arith}
 use lib.IntN.{ℤ}
 use lib.ListN.{length}
 use Rattle.base.specs.Outcome.{Outcome}
-use Rattle.base.specs.Step.{Said, Step, turned, lift, lifted}
+use Rattle.base.specs.Step.{Said, Step, turned, lift}
+use Rattle.base.proofs.Step.{lifted}
 use Rattle.words.specs.Map.{READERS, HITS-SIZE, WORDS}
 use Rattle.words.specs.Words.{readersIn, hitsIn, putReaders, putHits}
 use Rattle.words.proofs.Parts.{part-length}

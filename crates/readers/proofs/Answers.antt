@@ -5,11 +5,13 @@ use mathlib.Core.List.{List}
 use Prim.Native.Nat.{ℕ, _-_}
 use lib.Dec.{eqb, ltb, leb}
 use lib.ListN.{length, set}
-use Rattle.base.specs.Outcome.{Outcome, corrupt, done, need, ended, nothing, ended-corrupt, ended-done}
+use Rattle.base.specs.Outcome.{Outcome, corrupt, done, need, ended, nothing}
+use Rattle.base.proofs.Outcome.{ended-corrupt, ended-done}
 use Rattle.base.specs.Answer.{changeSays}
 use Rattle.base.specs.declared.Change.{Change}
 use Rattle.base.specs.declared.Change.the-variants.{Corrupt as ChangeCorrupt, Done as ChangeDone}
-use Rattle.base.specs.Table.{at, by-test}
+use Rattle.base.specs.Table.{at}
+use Rattle.base.proofs.Table.{by-test}
 use Rattle.words.specs.Map.{READERS, WORDS}
 use native.Mathlib.Omega.{arith}
 use Rattle.words.specs.Words.{readersIn, putReaders}

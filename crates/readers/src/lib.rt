@@ -6,8 +6,9 @@ ghost use Rattle.base.specs.Lent.{old, new};
 ghost use Rattle.base.specs.Outcome.{ended, nothing};
 ghost use Rattle.base.specs.Answer.{changeSays};
 ghost use Rattle.words.specs.Words.{countIn, readersIn, putReaders};
-ghost use Rattle.readers.specs.Reader.{Reading, addReader, takeReader, leaveFor, standingValues, stoodSays};
+ghost use Rattle.readers.specs.Reader.{addReader, takeReader, leaveFor};
 ghost use Rattle.words.specs.Map.{WORDS};
+ghost use Rattle.readers.specs.Promise.{Stands};
 use base::BUCKET_COUNT;
 use base::BUCKET_SLOTS;
 use base::Change;
@@ -29,7 +30,7 @@ pub enum Stood {
 // A reader more at a bucket, and its count noted.
 pub fn add_reader(words: &mut [u32], bucket: u32) -> Stood
     requires { ⌜ length (now words) ≡ WORDS ⌝ }
-    ensures { λ r. ⌜ ended standingValues (λ (d : Reading). putReaders (old words) (d .readers)) (old words) (addReader (countIn (old words)) (readersIn (old words)) bucket) ≡ (stoodSays r, new words) ⌝ }
+    ensures { λ r. ⌜ Stands words (addReader (countIn (old words)) (readersIn (old words)) bucket) r ⌝ }
 {
     if bucket >= BUCKET_COUNT {
         return Stood::Corrupt;
@@ -70,7 +71,7 @@ pub fn take_reader(words: &mut [u32], bucket: u32) -> Change
 // Leaves a bucket for the next one of the chain. A chain may be damaged, and the next bucket this one itself.
 pub fn leave_for(words: &mut [u32], bucket: u32, below: u32) -> Stood
     requires { ⌜ length (now words) ≡ WORDS ⌝ }
-    ensures { λ r. ⌜ ended standingValues (λ (d : Reading). putReaders (old words) (d .readers)) (old words) (leaveFor (countIn (old words)) (readersIn (old words)) bucket below) ≡ (stoodSays r, new words) ⌝ }
+    ensures { λ r. ⌜ Stands words (leaveFor (countIn (old words)) (readersIn (old words)) bucket below) r ⌝ }
 {
     if below >= BUCKET_COUNT {
         return Stood::Corrupt;

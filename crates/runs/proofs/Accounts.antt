@@ -10,21 +10,19 @@ use mathlib.Core.Option.{Option, none, some}
 use Prim.Native.Nat.{ℕ, zero, suc, _+_, _-_, _*_, _<_, _≤_}
 use native.Mathlib.Omega.{arith}
 use lib.Dec.{T}
-use Rattle.base.specs.Table.{at, at-or, clash}
+use Rattle.base.specs.Table.{at}
+use Rattle.base.proofs.Table.{at-or, clash}
 use Rattle.cells.proofs.Chains.{Owner, inPool, inChain, unlinked}
 use Rattle.layout.specs.declared.place.Place.{Place}
 use Rattle.slots.specs.Tuple.{Tuple, tupleAt, slotAt}
 use Rattle.index.specs.Search.{known}
 use Rattle.stage.specs.declared.Stage.{Stage}
-use Rattle.stage.specs.declared.Stage.the-variants.{Idle, TakeObject, LockCell, LookLast, CopyLast, LowerCount}
-use Rattle.stage.specs.declared.Stage.the-variants.{ReturnBucket, ErasePlace, ChooseCell, MakeRoom, WriteTuple}
-use Rattle.stage.specs.declared.Stage.the-variants.{RaiseCount, SwitchPlace, DeleteOld, ReleaseObject}
+use Rattle.stage.specs.declared.Stage.the-variants.{Idle, TakeObject, LockCell, LookLast, CopyLast, LowerCount, ReturnBucket, ErasePlace, ChooseCell, MakeRoom, WriteTuple, RaiseCount, SwitchPlace, DeleteOld, ReleaseObject}
 use Rattle.grid.specs.Run.{Grid}
 use Rattle.machine.specs.Machine.{Entry}
-use Rattle.machine.specs.Sums.{sum, bit, count}
+use Rattle.base.specs.Sums.{sum, bit, count}
 use Rattle.machine.proofs.Pigeon.{by-pair}
-use Rattle.tuples.proofs.Inv.{Pos, Kind, kCur, kPrev, kNew, kDup, sel, mk, pl, Top, Moved, movedCur, movedPrev}
-use Rattle.tuples.proofs.Inv.{Lowering, Erasing, Ok, ownHeld, movHeld, filling, mv, cl, bk, goal}
+use Rattle.tuples.proofs.Inv.{Pos, Kind, kCur, kPrev, kNew, kDup, sel, mk, pl, Top, Moved, movedCur, movedPrev, Lowering, Erasing, Ok, ownHeld, movHeld, filling, mv, cl, bk, goal}
 use Rattle.tuples.proofs.Facts.{tall-of, at-stage}
 use Rattle.tuples.proofs.Dry.{mov-own}
 use Rattle.runs.specs.Accounts.{atWork, Counts, Reason, TwoEach}

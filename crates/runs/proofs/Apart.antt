@@ -15,9 +15,11 @@ use lib.ListN.{set}
 use lib.Seq.{getD-set-same}
 use borrow.Author.Tests.{ne-eqb, lt-ltb, le-leb}
 use Rattle.base.specs.Lists.{In, in-none, in-one}
-use Rattle.base.specs.Outcome.{Outcome, done, need, pick, need-true, then-true}
+use Rattle.base.specs.Outcome.{Outcome, done, need, pick}
+use Rattle.base.proofs.Outcome.{need-true, then-true}
 use Rattle.base.specs.Step.{stepOf, lift}
-use Rattle.base.specs.Table.{at, at-or, clash}
+use Rattle.base.specs.Table.{at}
+use Rattle.base.proofs.Table.{at-or, clash}
 use Rattle.cells.specs.Chain.{Chains, chainsOf, push, makeRoom}
 use Rattle.cells.proofs.Chains.{Owner, inPool, inChain, unlinked}
 use Rattle.cells.proofs.Walked.{chain-walked}
@@ -30,9 +32,7 @@ use Rattle.readers.specs.declared.Standing.{Standing}
 use Rattle.query.specs.declared.Scan.the-variants.{Read}
 use Rattle.stage.specs.Turn.{isIdle}
 use Rattle.stage.specs.declared.Stage.{Stage}
-use Rattle.stage.specs.declared.Stage.the-variants.{Idle, TakeObject, LockCell, LookLast, CopyLast, LowerCount}
-use Rattle.stage.specs.declared.Stage.the-variants.{ReturnBucket, ErasePlace, ChooseCell, MakeRoom, WriteTuple}
-use Rattle.stage.specs.declared.Stage.the-variants.{RaiseCount, SwitchPlace, DeleteOld, ReleaseObject}
+use Rattle.stage.specs.declared.Stage.the-variants.{Idle, TakeObject, LockCell, LookLast, CopyLast, LowerCount, ReturnBucket, ErasePlace, ChooseCell, MakeRoom, WriteTuple, RaiseCount, SwitchPlace, DeleteOld, ReleaseObject}
 use Rattle.stage.specs.declared.Updater.{Updater}
 use Rattle.tables.specs.Tables.{Tables, withFirst, withCount, withNext, withPool}
 use Rattle.turns.specs.Stages.{stageOn}

@@ -11,7 +11,8 @@ use native.Mathlib.Omega.{arith}
 use lib.IntN.{ℤ}
 use lib.ListN.{length, getD, set, length-set}
 use lib.Seq.{getD-set-same, getD-set-other}
-use Rattle.base.specs.Table.{at, at-or}
+use Rattle.base.specs.Table.{at}
+use Rattle.base.proofs.Table.{at-or}
 use Rattle.stage.specs.declared.Updater.{Updater}
 use Rattle.query.specs.declared.Scan.{Scan}
 use Rattle.query.specs.declared.Scan.the-variants.{Idle, Finished}

@@ -8,7 +8,8 @@ use lib.Dec.{T, ltb}
 use lib.IntN.{ℤ, pos, natAbs}
 use lib.ListN.{getD, replicate, length-replicate}
 use Rattle.base.specs.Outcome.{pick}
-use Rattle.base.specs.Table.{at, clash}
+use Rattle.base.specs.Table.{at}
+use Rattle.base.proofs.Table.{clash}
 use Rattle.layout.specs.Place.{nowhere}
 use Rattle.index.specs.Index.{empty as emptyIndex}
 use Rattle.index.proofs.Map.{sound-empty, lookup-empty}
@@ -23,7 +24,7 @@ use Rattle.updates.specs.Update.{idleUpdater, idleUpdaters}
 use Rattle.queries.specs.Query.{idleQuery, idleQueries}
 use Rattle.grid.specs.Run.{emptyGrid}
 use Rattle.machine.specs.Machine.{St}
-use Rattle.machine.specs.Sums.{sum, bit}
+use Rattle.base.specs.Sums.{sum, bit}
 use Rattle.cells.proofs.Chains.{inPool, Links, Full, Loose}
 use Rattle.cells.proofs.Empty.{links-empty}
 use Rattle.tuples.proofs.Inv.{Bounded, Inv, Ok, celHeld, ownHeld, movHeld, stands-in}

@@ -9,12 +9,11 @@ use mathlib.Core.List.{[], _∷_}
 use Prim.Native.Nat.{ℕ, suc, _<_}
 use lib.Dec.{T}
 use Rattle.base.specs.Lists.{In, in-none, in-or, in-one}
-use Rattle.base.specs.Table.{at, clash}
+use Rattle.base.specs.Table.{at}
+use Rattle.base.proofs.Table.{clash}
 use Rattle.index.specs.Index.{Entry, lookup}
 use Rattle.stage.specs.declared.Stage.{Stage}
-use Rattle.stage.specs.declared.Stage.the-variants.{Idle, TakeObject, LockCell, LookLast, CopyLast, LowerCount}
-use Rattle.stage.specs.declared.Stage.the-variants.{ReturnBucket, ErasePlace, ChooseCell, MakeRoom, WriteTuple}
-use Rattle.stage.specs.declared.Stage.the-variants.{RaiseCount, SwitchPlace, DeleteOld, ReleaseObject}
+use Rattle.stage.specs.declared.Stage.the-variants.{Idle, TakeObject, LockCell, LookLast, CopyLast, LowerCount, ReturnBucket, ErasePlace, ChooseCell, MakeRoom, WriteTuple, RaiseCount, SwitchPlace, DeleteOld, ReleaseObject}
 use Rattle.grid.specs.Run.{Grid}
 use Rattle.tuples.proofs.Inv.{celHeld, ownHeld, movHeld, cl, mv, goal}
 use Rattle.runs.specs.Locks.{Locked, HoldsObject, LocksExact}

@@ -13,7 +13,8 @@ use lib.ListN.{getD, length}
 use borrow.Author.Tests.{eqb-true, eqb-false, eq-eqb, ne-eqb, le-ltb, lt-leb}
 use Rattle.base.specs.Outcome.{Outcome, corrupt, pick}
 use Rattle.base.specs.Step.{Step}
-use Rattle.base.specs.Table.{at, at-or, clash}
+use Rattle.base.specs.Table.{at}
+use Rattle.base.proofs.Table.{at-or, clash}
 use Rattle.layout.specs.Question.{visited, inside}
 use Rattle.layout.proofs.Walk.{visited-below, visited-walk}
 use Rattle.layout.proofs.Corners.{proper-iff}

@@ -8,7 +8,8 @@ use native.Mathlib.Omega.{arith}
 use lib.Dec.{ltb}
 use lib.ListN.{getD, set, length-set}
 use borrow.Author.Tests.{ltb-true}
-use Rattle.base.specs.Table.{at-or, clash, upd, upd-same, upd-other}
+use Rattle.base.proofs.Table.{at-or, clash, upd-same, upd-other}
+use Rattle.base.specs.Table.{upd}
 use Rattle.layout.specs.Question.{cornersOn, ordered}
 use Rattle.layout.specs.declared.question.Question.{Question}
 use Rattle.query.specs.declared.Scan.{Scan}

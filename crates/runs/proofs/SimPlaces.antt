@@ -17,7 +17,8 @@ use lib.Signed.{ltZ}
 use borrow.Author.Tests.{eqb-false, lt-ltb, le-ltb, ne-eqb}
 use Rattle.base.specs.Outcome.{done, need, pick, andThen}
 use Rattle.base.specs.Step.{lift}
-use Rattle.base.specs.Table.{at, at-set, upd, upd-other, by-test}
+use Rattle.base.specs.Table.{at, upd}
+use Rattle.base.proofs.Table.{at-set, upd-other, by-test}
 use Rattle.layout.specs.Place.{encode, nowhere}
 use Rattle.layout.specs.declared.place.Place.{Place}
 use Rattle.layout.proofs.Places.{decode-encode, decode-nowhere, encode-some}

@@ -12,7 +12,7 @@ use Rattle.index.specs.Search.{known}
 use Rattle.index.specs.Index.{Entry, lookup}
 use Rattle.stage.specs.declared.Stage.{Stage}
 use Rattle.grid.specs.Run.{Grid}
-use Rattle.machine.specs.StageTable.{row, cellOr, bucketBy}
+use Rattle.stage.specs.StageTable.{row, cellOr, bucketBy}
 use Rattle.runs.specs.Apart.{InUse}
 use Rattle.runs.specs.Counting.{chained, awaiting}
 use Rattle.runs.specs.Quiet.{updater, positive}

@@ -10,7 +10,8 @@ use lib.Dec.{eqb, ltb, leb}
 use lib.ListN.{length}
 use borrow.Author.Tests.{le-ltb, le-leb, eq-eqb, ne-eqb, ltb-false, leb-true, eqb-true, eqb-false}
 use Rattle.base.specs.Outcome.{pick}
-use Rattle.base.specs.Table.{at, by-test, at-or, clash}
+use Rattle.base.specs.Table.{at}
+use Rattle.base.proofs.Table.{by-test, at-or, clash}
 use Rattle.script.specs.Grammar.{largest, Digits, none as no-digits, more, valueFrom, Numeral}
 use Rattle.script.specs.Parse.{Front, frontOf, isDigit, digitsOn, number}
 

@@ -11,7 +11,8 @@ use lib.IntN.{ℤ}
 use lib.ListN.{length, set, getD, drop, length-set, length-drop}
 use lib.Seq.{drop-set-lt, getD-set-same, take-all}
 use borrow.Author.Tests.{eqb-true, eqb-false, eq-eqb, ne-eqb}
-use Rattle.base.specs.Table.{at, by-test, clash}
+use Rattle.base.specs.Table.{at}
+use Rattle.base.proofs.Table.{by-test, clash}
 use Rattle.words.specs.Map.{CELLS, FIRST, COUNT, NEXT, READERS, TUPLES, TUPLE-XS, TUPLE-YS, TUPLES-SIZE, INDEX, INDEX-LOCKS, INDEX-CURRENT, INDEX-PREVIOUS, INDEX-SIZE, HITS, HIT-XS, HIT-YS, HITS-SIZE, CLOCK, POOL, WORDS, TIMES}
 use Rattle.words.specs.Part.{part, put}
 use Rattle.words.specs.Words.{cellsIn, firstIn, countIn, nextIn, clockIn, poolIn, putReaders, putHits}

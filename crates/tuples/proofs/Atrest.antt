@@ -9,10 +9,10 @@ use Prim.Native.Nat.{ℕ, _≤_, _<_}
 use native.Mathlib.Omega.{arith}
 use lib.Dec.{T}
 use lib.IntN.{natAbs}
-use Rattle.base.specs.Table.{clash}
+use Rattle.base.proofs.Table.{clash}
 use Rattle.machine.specs.Store.{StoreOps, Store}
 use Rattle.machine.specs.Marks.{stands, stood}
-use Rattle.machine.specs.Sums.{sum}
+use Rattle.base.specs.Sums.{sum}
 use Rattle.slots.specs.Tuple.{Tuple}
 use Rattle.stage.specs.declared.Stage.the-variants.{Idle}
 use Rattle.machine.specs.Machine.{St, withTup, withClock}

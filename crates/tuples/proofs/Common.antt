@@ -12,7 +12,8 @@ use native.Mathlib.Omega.{arith}
 use lib.Dec.{T, ltb→lt}
 use lib.IntN.{ℤ, pos, negsuc, natAbs}
 use Rattle.machine.specs.Marks.{stands, stood}
-use Rattle.base.specs.Table.{upd, upd-same, upd-other, at-or, clash}
+use Rattle.base.specs.Table.{upd}
+use Rattle.base.proofs.Table.{upd-same, upd-other, at-or, clash}
 use Rattle.layout.specs.declared.place.Place.{Place}
 use Rattle.layout.specs.Place.{cellOf}
 use Rattle.slots.specs.Tuple.{Tuple}
@@ -22,7 +23,7 @@ use Rattle.stage.specs.declared.Updater.{Updater}
 use Rattle.machine.specs.Machine.{Scanner, St, put, to}
 use Rattle.cells.proofs.Chains.{Owner, inChain, unlinked}
 use Rattle.tuples.proofs.Inv.{Pos, Kind, kCur, kPrev, kNew, sel, Slots, Fit, Fits, Top, topOf, Ok, celHeld, mv, cl, goal, bk, filling, Ghost, OkAt, Lanes, CellLocks, ObjLocks, Filled, Back, draws, Ticks, Young, Placed, Written, Reading}
-use Rattle.machine.specs.Sums.{sum}
+use Rattle.base.specs.Sums.{sum}
 use Rattle.tuples.proofs.Local.{Local, others}
 use Rattle.tuples.proofs.Slots.{put-same, put-else, slot-or}
 

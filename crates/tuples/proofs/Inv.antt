@@ -22,7 +22,7 @@ use lib.Dec.{T, eqb}
 use lib.IntN.{natAbs}
 use Rattle.machine.specs.Store.{StoreOps, Store}
 use Rattle.machine.specs.Marks.{stands, stood}
-use Rattle.machine.specs.Sums.{sum, bit}
+use Rattle.base.specs.Sums.{sum, bit}
 use Rattle.layout.specs.declared.place.Place.{Place}
 use Rattle.layout.specs.Place.{cellOf}
 use Rattle.slots.specs.Tuple.{Tuple}
@@ -30,7 +30,7 @@ use Rattle.stage.specs.declared.Stage.{Stage}
 use Rattle.stage.specs.declared.Stage.the-variants.{Idle, TakeObject, LockCell, LookLast, CopyLast, LowerCount, ReturnBucket, ErasePlace, ChooseCell, MakeRoom, WriteTuple, RaiseCount, SwitchPlace, DeleteOld, ReleaseObject}
 use Rattle.stage.specs.declared.Updater.{Updater}
 use Rattle.machine.specs.Machine.{Entry, Scanner, St}
-use Rattle.machine.specs.StageTable.{row, given, orElse, holdsCell, cellOr}
+use Rattle.stage.specs.StageTable.{row, given, orElse, holdsCell, cellOr}
 use Rattle.cells.proofs.Chains.{Owner, inChain, unlinked, Links, Full, Held, Loose}
 
 -- ---- the pool, in the words of the chains' owners

@@ -9,7 +9,8 @@ use mathlib.Core.Option.{Option, none, some}
 use Prim.Native.Nat.{ℕ, zero, suc, _≤_, _<_}
 use native.Mathlib.Omega.{arith}
 use lib.Dec.{T, leb, ltb, ltb→lt, nleb→lt}
-use Rattle.base.specs.Table.{upd, upd-same, upd-other, at-or, clash}
+use Rattle.base.specs.Table.{upd}
+use Rattle.base.proofs.Table.{upd-same, upd-other, at-or, clash}
 use Rattle.base.specs.Outcome.{pick}
 use Rattle.machine.specs.Ends.{Ends, done, ends-pick, refused}
 use Rattle.machine.specs.Store.{StoreOps, Store}
@@ -27,7 +28,8 @@ use Rattle.tuples.proofs.Local.{Local}
 use Rattle.tuples.proofs.Locks.{still, cells-step, objs-step}
 use Rattle.tuples.proofs.Common.{oks, writes}
 use Rattle.tuples.proofs.Facts.{cell-his, obj-his}
-use Rattle.machine.specs.Sums.{sum, bit, bit-le, sum-le, sum-const}
+use Rattle.base.specs.Sums.{sum, bit}
+use Rattle.base.proofs.Sums.{bit-le, sum-le, sum-const}
 use Rattle.tuples.proofs.Stage4.{keeps4}
 use Rattle.tuples.proofs.Stage5.{keeps5}
 use Rattle.tuples.proofs.Stage7.{keeps7}

@@ -13,7 +13,8 @@ use mathlib.Core.Option.{none, some}
 use Prim.Native.Nat.{ℕ, suc, _<_}
 use native.Mathlib.Omega.{arith}
 use lib.Dec.{T, lt→ltb}
-use Rattle.base.specs.Table.{upd, upd-same, upd-other, at-or, clash}
+use Rattle.base.specs.Table.{upd}
+use Rattle.base.proofs.Table.{upd-same, upd-other, at-or, clash}
 use Rattle.machine.specs.Ends.{Ends, done, ends-must}
 use Rattle.machine.specs.Store.{StoreOps, Store}
 use Rattle.machine.specs.Marks.{stands}
@@ -32,7 +33,7 @@ use Rattle.tuples.proofs.Moves.{cells-keep, objs-keep, loose-apart}
 use Rattle.cells.proofs.Counts.{full-count, loose-count}
 use Rattle.tuples.proofs.Stage8.{stands-suc, clock-below, clock<}
 use Rattle.tuples.proofs.Fresh.{aim}
-use Rattle.machine.specs.History.{spotOf}
+use Rattle.slots.specs.Spot.{spotOf}
 use Rattle.tuples.proofs.Effect.{Effect, Source, written, says-eq, goes-same, main-or, puts, told-stands, met-count}
 
 module _ {O : StoreOps} {S : Store O} {g : Ghost} {d : St} (I : Inv S g d) (l : ℕ) (l< : l < 8) where

@@ -15,7 +15,8 @@ use mathlib.Core.Option.{none, some}
 use Prim.Native.Nat.{ℕ, suc, _-_, _<_}
 use native.Mathlib.Omega.{arith}
 use lib.Dec.{T, lt→ltb, le→leb, leb, ltb}
-use Rattle.base.specs.Table.{upd, upd-same, upd-other, at-or, clash}
+use Rattle.base.specs.Table.{upd}
+use Rattle.base.proofs.Table.{upd-same, upd-other, at-or, clash}
 use Rattle.machine.specs.Ends.{Ends, done, ends-must}
 use Rattle.machine.specs.Store.{StoreOps, Store}
 use Rattle.layout.specs.declared.place.Place.{Place}

@@ -15,7 +15,8 @@ use Prim.Native.Nat.{ℕ, suc, _-_, _<_}
 use native.Mathlib.Omega.{arith}
 use lib.Dec.{T, lt→ltb, ltb, eqb, eqb→eq, eqb-refl}
 use lib.IntN.{pos}
-use Rattle.base.specs.Table.{upd, upd-same, upd-other, at-or, clash}
+use Rattle.base.specs.Table.{upd}
+use Rattle.base.proofs.Table.{upd-same, upd-other, at-or, clash}
 use Rattle.base.specs.Outcome.{pick}
 use Rattle.machine.specs.Ends.{Ends, done, ends-must, ends-pick}
 use Rattle.machine.specs.Store.{StoreOps, Store}
@@ -25,7 +26,7 @@ use Rattle.layout.specs.Place.{cellOf}
 use Rattle.slots.specs.Tuple.{Tuple}
 use Rattle.stage.specs.declared.Stage.the-variants.{ChooseCell, MakeRoom, DeleteOld, ReleaseObject}
 use Rattle.machine.specs.Machine.{St, Out, put, to, inCell, putLane, withCellLock, withTup, withClock, noPrev, flagged, stage8, stage13}
-use Rattle.machine.specs.Sums.{sum-term}
+use Rattle.base.proofs.Sums.{sum-term}
 use Rattle.tuples.proofs.Inv.{kCur, kPrev, sel, mk, plain, Lives, Fit, topOf, Outside, Ok, ownHeld, movHeld, celHeld, mv, cl, goal, bk, filling, Ghost, draws, Inv}
 use Rattle.tuples.proofs.Slots.{put-same, put-else, slot-or, same-place, retup, rename}
 use Rattle.tuples.proofs.Local.{Local, freed}

@@ -5,7 +5,8 @@ use Prim.Native.Nat.{ℕ}
 use lib.IntN.{ℤ}
 use lib.ListN.{length}
 use Rattle.base.specs.Outcome.{Outcome, corrupt, blocked, done}
-use Rattle.base.specs.Step.{Said, Step, turned, turnTells, turnLeaves, lift, lifted}
+use Rattle.base.specs.Step.{Said, Step, turned, turnTells, turnLeaves, lift}
+use Rattle.base.proofs.Step.{lifted}
 use Rattle.words.specs.Map.{WORDS}
 use Rattle.words.specs.Words.{cellsIn, indexIn, putCells, putIndex}
 use Rattle.layout.specs.declared.place.Place.{Place}

@@ -5,7 +5,8 @@ use mathlib.Core.Option.{none, some}
 use mathlib.Core.List.{List, []}
 use Prim.Native.Nat.{ℕ, _+_, _<_, _≤_}
 use borrow.Author.Tests.{le-ltb, lt-ltb}
-use Rattle.base.specs.Outcome.{says, Outcome, corrupt, done, need, andThen, nothing, ended, ended-corrupt, ended-done}
+use Rattle.base.specs.Outcome.{says, Outcome, corrupt, done, need, andThen, nothing, ended}
+use Rattle.base.proofs.Outcome.{ended-corrupt, ended-done}
 use Rattle.base.specs.Step.{Said, said, turned}
 use Rattle.layout.specs.Place.{onGrid, cellOf}
 use Rattle.layout.specs.declared.place.Place.{Place}

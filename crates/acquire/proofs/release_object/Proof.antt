@@ -1,7 +1,8 @@
 -- release_object does what `stage14` says of the index: as free_object answers.
 use mathlib.Core.Path.{ap, sym, _∙_}
 use denote.Ref.{now}
-use Rattle.base.specs.Outcome.{nothing, ended-corrupt, ended-done}
+use Rattle.base.specs.Outcome.{nothing}
+use Rattle.base.proofs.Outcome.{ended-corrupt, ended-done}
 use Rattle.base.specs.Answer.{changeSays}
 use Rattle.base.specs.Step.{turnTells, turnLeaves}
 use Rattle.base.specs.declared.Change.{Change}

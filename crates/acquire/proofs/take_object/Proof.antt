@@ -2,7 +2,8 @@
 use mathlib.Core.Path.{ap, _∙_}
 use native.Mathlib.Omega.{arith}
 use denote.Ref.{now}
-use Rattle.base.specs.Outcome.{andThen, nothing, told-corrupt, told-blocked, told-done}
+use Rattle.base.specs.Outcome.{andThen, nothing}
+use Rattle.base.proofs.Outcome.{told-corrupt, told-blocked, told-done}
 use Rattle.base.specs.Answer.{attemptSays}
 use Rattle.base.specs.Step.{turnTells, turnLeaves}
 use Rattle.words.specs.Map.{COUNT}

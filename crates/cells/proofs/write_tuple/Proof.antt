@@ -2,7 +2,8 @@
 use Prim.Native.Nat.{_+_}
 use denote.Ref.{now}
 use borrow.Author.Tests.{le-ltb, lt-ltb}
-use Rattle.base.specs.Outcome.{need, andThen, nothing, ended-corrupt, ended-done}
+use Rattle.base.specs.Outcome.{need, andThen, nothing}
+use Rattle.base.proofs.Outcome.{ended-corrupt, ended-done}
 use Rattle.base.specs.Table.{at}
 use Rattle.words.specs.Map.{FIRST, COUNT}
 use Rattle.tables.specs.Tables.{withTuples}

@@ -1,6 +1,6 @@
 -- hold_cell takes the lock and goes on: as take_lock answers.
 use Rattle.base.specs.Outcome.{andThen}
-use Rattle.base.specs.Answer.{attempt-corrupt, attempt-blocked, attempt-done}
+use Rattle.base.proofs.Answer.{attempt-corrupt, attempt-blocked, attempt-done}
 use Rattle.locks.specs.Lock.{take}
 use Rattle.base.specs.Step.{turnTells, turnLeaves}
 use borrow.Author.Needs.{needs}

@@ -1,7 +1,8 @@
 -- copy_last does what `stage4` says: as last_tuple answers, then as copy_slot does.
 use mathlib.Core.Path.{refl}
 use denote.Ref.{now}
-use Rattle.base.specs.Outcome.{nothing, ended-corrupt, ended-done}
+use Rattle.base.specs.Outcome.{nothing}
+use Rattle.base.proofs.Outcome.{ended-corrupt, ended-done}
 use Rattle.tables.specs.Tables.{withTuples}
 use Rattle.tables.specs.Grid.{grid}
 use Rattle.cells.specs.On.{lastOn, copyOn}

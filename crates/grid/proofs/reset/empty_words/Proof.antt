@@ -1,6 +1,6 @@
 -- empty_words leaves the words of an empty grid: by the laws of Emptied.antt, from what each filling ensures.
 use denote.Ref.{now}
-use Rattle.base.specs.Answer.{changed-corrupt, changed-done}
+use Rattle.base.proofs.Answer.{changed-corrupt, changed-done}
 use Rattle.pool.specs.Pool.{refill}
 use Rattle.grid.proofs.Emptied.{pool-refused, pools-length, to-empty}
 use borrow.Author.Needs.{needs}

@@ -3,7 +3,8 @@ use mathlib.Core.Path.{refl, ap, _∙_}
 use denote.Ref.{now}
 use borrow.Author.Tests.{lt-ltb, le-ltb, eq-eqb, ne-eqb}
 use Rattle.base.specs.Outcome.{need, pick, andThen}
-use Rattle.base.specs.Step.{turnTells, turnLeaves, said-corrupt, said-done}
+use Rattle.base.specs.Step.{turnTells, turnLeaves}
+use Rattle.base.proofs.Step.{said-corrupt, said-done}
 use Rattle.words.specs.Map.{FIRST}
 use Rattle.words.specs.Words.{countIn, readersIn}
 use Rattle.readers.specs.Reader.{addReader}

@@ -3,7 +3,8 @@ use mathlib.Core.Path.{refl, ap, sym, _∙_}
 use denote.Ref.{now}
 use borrow.Author.Tests.{not-true, not-false}
 use Rattle.base.specs.Answer.{attemptSays}
-use Rattle.base.specs.Outcome.{need, andThen, nothing, told-corrupt, told-blocked, told-done}
+use Rattle.base.specs.Outcome.{need, andThen, nothing}
+use Rattle.base.proofs.Outcome.{told-corrupt, told-blocked, told-done}
 use Rattle.base.specs.Step.{turnTells, turnLeaves}
 use Rattle.locks.specs.Lock.{look}
 use Rattle.query.specs.Scan.{enterStep}

@@ -5,7 +5,8 @@ use Rattle.words.specs.Words.{readersIn}
 use Rattle.readers.proofs.Answers.{took-corrupt, took-done}
 use Rattle.tables.specs.Grid.{grid}
 use Rattle.base.specs.Outcome.{andThen}
-use Rattle.base.specs.Step.{turnTells, turnLeaves, said-corrupt, said-done}
+use Rattle.base.specs.Step.{turnTells, turnLeaves}
+use Rattle.base.proofs.Step.{said-corrupt, said-done}
 use Rattle.readers.specs.Reader.{takeReader}
 use Rattle.query.specs.Scan.{afterCell, onwardSays, leaveLast}
 use Rattle.query.proofs.Lost.{leave-lost}
