@@ -19,7 +19,7 @@ use Rattle.words.specs.Part.{part, store}
 use Rattle.words.specs.Words.{cellsIn, firstIn, countIn, tuplesIn, indexIn, putIndex}
 use Rattle.words.proofs.Parts.{part-length, put-length}
 use Rattle.layout.specs.declared.place.Place.{Place}
-use Rattle.cells.specs.Chain.{last}
+use Rattle.cells.specs.Chain.{lastIn}
 use Rattle.cells.specs.declared.Last.{Last}
 use Rattle.index.specs.Index.{Index, indexAt, withLock}
 use Rattle.tables.specs.Tables.{Tables, withCells, withIndex, withLocks}
@@ -88,7 +88,7 @@ other-on w ts w# o s v v# e =
 
 module _ (t : Tables) (p : Place) (k owner : ℕ) where
   abbrev lastly : Outcome Last
-  lastly = last (t .first) (t .count) (t .tuples .oid) (p .cell)
+  lastly = lastIn (t .first) (t .count) (t .tuples .oid) (p .cell)
 
   pub look-none : lastly ≡ corrupt → turned t (lastOn t p k owner) ≡ (turnSays Corrupt, t)
   unfolding turnTells turnLeaves

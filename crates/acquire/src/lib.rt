@@ -4,7 +4,7 @@ ghost use mathlib.Core.Path.{_≡_};
 ghost use lib.ListN.{length};
 ghost use Rattle.index.specs.Index.{indexAt, withLock};
 ghost use Rattle.tables.specs.Tables.{withLocks};
-ghost use Rattle.acquire.specs.Acquire.{hold, stage2};
+ghost use Rattle.acquire.specs.Acquire.{stage2};
 ghost use Rattle.acquire.specs.On.{lockObject, freeObject, takeOn, endOn, backOn, lastOn};
 ghost use Rattle.base.specs.Promise.{AttemptsIn, ChangesIn};
 ghost use Rattle.words.specs.Map.{INDEX-SIZE, WORDS};
@@ -26,6 +26,7 @@ use locks::release_lock;
 use locks::take_lock;
 use stage::Stage;
 use stage::Turn;
+use stage::hold_lock;
 use words::CELLS;
 use words::FIRST;
 use words::HITS;
@@ -34,18 +35,6 @@ use words::INDEX_CURRENT;
 use words::INDEX_LOCKS;
 use words::INDEX_PREVIOUS;
 use words::INDEX_SIZE;
-
-// stages 1 and 2: takes a lock and goes on to another stage. Blocked if it is taken.
-fn hold_lock(locks: &mut [u32], at: usize, owner: u32, next: Stage) -> Turn
-    ensures { λ r. ⌜ Turns (λ l. hold l at owner next) r (old locks) (new locks) ⌝ }
-{
-    let taken = take_lock(locks, at, owner);
-    match taken {
-        Attempt::Corrupt => Turn::Corrupt,
-        Attempt::Blocked => Turn::Blocked,
-        Attempt::Done => Turn::Advanced(next),
-    }
-}
 
 // Takes the lock of an object's entry. Blocked if it is taken.
 fn lock_object(index: &mut [u32], oid: u32, owner: u32) -> Attempt

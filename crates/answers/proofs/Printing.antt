@@ -7,7 +7,7 @@ use native.Mathlib.Numerals.{add-one}
 use lib.ListN.{length, set, length-append}
 use lib.Seq.{sets, length-sets}
 use Rattle.base.specs.Table.{at}
-use Rattle.script.specs.Digits.{digits}
+use Rattle.script.specs.Digits.{decimalOf}
 use Rattle.script.proofs.Printed.{digits-one, digits-more, digits-few-32, digits-few-64}
 use Rattle.answers.specs.Printed.{Printed}
 use Rattle.answers.specs.Answer.{closed, row, answerLine, collectedLine, entryLine, entryLines}
@@ -37,23 +37,23 @@ printed-as {a} {s} {t} {b} {i} {j} e p = subst (λ (l : List ℕ). Printed a i l
 
 -- ---- the digits of a number
 
-pub one-length : (n : ℕ) → n < 10 → length (digits n) ≡ 1
+pub one-length : (n : ℕ) → n < 10 → length (decimalOf n) ≡ 1
 one-length n h = ap length (digits-one n h)
 
-pub digits-short : (n : ℕ) → 10 ≤ n → length (digits n) ≡ length (digits (n / 10)) + 1
+pub digits-short : (n : ℕ) → 10 ≤ n → length (decimalOf n) ≡ length (decimalOf (n / 10)) + 1
 digits-short n h = rw (digits-more n h, length-append) (omega arith)
 
-pub printed-one : (l : List ℕ) (i n : ℕ) → n < 10 → Printed l i (digits n) (set l i (48 + n)) (i + 1)
+pub printed-one : (l : List ℕ) (i n : ℕ) → n < 10 → Printed l i (decimalOf n) (set l i (48 + n)) (i + 1)
 printed-one l i n h = printed-as (sym (digits-one n h)) (printed-byte l i (48 + n))
 
-pub printed-more : (l m : List ℕ) (i j n : ℕ) → 10 ≤ n → Printed l i (digits (n / 10)) m j → Printed l i (digits n) (set m j (48 + n % 10)) (j + 1)
+pub printed-more : (l m : List ℕ) (i j n : ℕ) → 10 ≤ n → Printed l i (decimalOf (n / 10)) m j → Printed l i (decimalOf n) (set m j (48 + n % 10)) (j + 1)
 printed-more l m i j n h p = printed-as (sym (digits-more n h)) (printed-both p (printed-byte m j (48 + n % 10)))
 
 -- ---- how long
 
-pub closed-length : (n b : ℕ) → length (closed n b) ≡ length (digits n) + 1
+pub closed-length : (n b : ℕ) → length (closed n b) ≡ length (decimalOf n) + 1
 unfolding closed
-closed-length n b = rw (length-append (digits n) (b ∷ [])) (omega arith)
+closed-length n b = rw (length-append (decimalOf n) (b ∷ [])) (omega arith)
 
 pub closed-32 : (n b : ℕ) → n < 4294967296 → length (closed n b) ≤ 11
 closed-32 n b h = omega (arith, closed-length n b, digits-few-32 n h)

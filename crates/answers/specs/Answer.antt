@@ -2,11 +2,11 @@
 use mathlib.Core.List.{List, [], _∷_, _++_}
 use Prim.Native.Nat.{ℕ, zero, suc, _+_, _*_}
 use Rattle.base.specs.Table.{at}
-use Rattle.script.specs.Digits.{digits}
+use Rattle.script.specs.Digits.{decimalOf}
 
 -- a number and the byte behind it
 unfoldable pub closed : ℕ → ℕ → List ℕ
-closed n b = digits n ++ b ∷ []
+closed n b = decimalOf n ++ b ∷ []
 
 -- numbers in a line: parted by commas, with a line feed behind the last
 unfoldable pub row : List ℕ → List ℕ

@@ -1,14 +1,14 @@
 // Decimal numbers into a buffer.
 ghost use Prim.Native.Nat.{_+_, _≤_};
 ghost use lib.ListN.{length};
-ghost use Rattle.script.specs.Digits.{digits};
+ghost use Rattle.script.specs.Digits.{decimalOf};
 ghost use Rattle.answers.specs.Answer.{closed};
 ghost use Rattle.answers.specs.Printed.{Printed};
 
 // Prints the digits of n, the first one in front: those of its tenth part first, if it has one.
 pub fn print_number(out: &mut [u8], at: usize, n: u64) -> usize
-    requires { ⌜ at + length (digits n) ≤ length (now out) ⌝ }
-    ensures { λ r. ⌜ Printed (now (out .entry)) at (digits n) (now (out .exit)) r ⌝ }
+    requires { ⌜ at + length (decimalOf n) ≤ length (now out) ⌝ }
+    ensures { λ r. ⌜ Printed (now (out .entry)) at (decimalOf n) (now (out .exit)) r ⌝ }
 {
     if n < 10 {
         out[at] = 48 + n as u8;

@@ -1,5 +1,6 @@
 pub mod Answers
 mod Doing
+mod First
 pub mod Stored
 mod Pick
 pub mod Chains

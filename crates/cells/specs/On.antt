@@ -7,14 +7,17 @@ use Rattle.base.specs.Outcome.{Outcome, ended}
 use Rattle.base.specs.Table.{at}
 use Rattle.slots.specs.Tuple.{Tuples, copy, overwrite}
 use Rattle.tables.specs.Tables.{Tables, withTuples, withFirst, withCount, withNext, withPool}
-use Rattle.cells.specs.Chain.{last, Lowering, lower, giveBack, Chains, chainsOf, push, makeRoom, Writing, write, unlinkedValues, loweredSays, writtenSays}
+use Rattle.cells.specs.Chain.{firstBucket, lastIn, Lowering, lower, giveBack, Chains, chainsOf, push, makeRoom, Writing, write, unlinkedValues, loweredSays, writtenSays}
 use Rattle.cells.specs.declared.Last.{Last}
 use Rattle.layout.specs.Place.{placeList}
 use Rattle.cells.specs.declared.Lowered.{Lowered}
 use Rattle.cells.specs.declared.Written.{Written}
 
+abbrev pub firstOn : Tables → ℕ → Outcome ℕ
+firstOn t c = firstBucket (t .first) c
+
 abbrev pub lastOn : Tables → ℕ → Outcome Last
-lastOn t c = last (t .first) (t .count) (t .tuples .oid) c
+lastOn t c = lastIn (t .first) (t .count) (t .tuples .oid) c
 
 abbrev pub lowerOn : Tables → ℕ → Outcome Lowering
 lowerOn t c = lower (t .first) (t .count) (t .next) c

@@ -5,11 +5,11 @@ ghost use Prim.Native.Nat.{_<_};
 ghost use mathlib.Core.List.{List};
 ghost use lib.IntN.{ℤ};
 ghost use lib.ListN.{length};
-ghost use Rattle.base.specs.Outcome.{tells};
+ghost use Rattle.base.specs.Outcome.{tells, one};
 ghost use Rattle.tables.specs.Tables.{withPool, withTuples};
 ghost use Rattle.tables.specs.Grid.{grid};
-ghost use Rattle.cells.specs.Chain.{lastValues, lastTupleSays, raise};
-ghost use Rattle.cells.specs.On.{lastOn, giveBackOn, linked, pushOn, makeRoomOn, withChains, copyOn, overwriteOn, Lowers, Writes};
+ghost use Rattle.cells.specs.Chain.{bucketSays, lastValues, lastTupleSays, raise};
+ghost use Rattle.cells.specs.On.{firstOn, lastOn, giveBackOn, linked, pushOn, makeRoomOn, withChains, copyOn, overwriteOn, Lowers, Writes};
 ghost use Rattle.base.specs.Promise.{AttemptsIn, Changes, ChangesIn};
 ghost use Rattle.tables.specs.Promise.{OnGrid, OnWords};
 ghost use Rattle.words.specs.Map.{TIMES, WORDS};
@@ -33,6 +33,12 @@ use words::POOL;
 use words::READERS;
 use words::TUPLES;
 use words::WORDS;
+
+// A cell's first bucket.
+pub enum Bucket {
+    Corrupt,
+    At(u32),
+}
 
 // The last tuple of a cell's first bucket: where it is, and whose.
 pub struct Last {
@@ -59,17 +65,29 @@ pub enum Written {
     At(Place),
 }
 
+// The first bucket of a cell. Corrupt if the cell is out of range, or has none, or one out of range.
+fn first_bucket(words: &[u32], cell: u32) -> Bucket
+    requires { ⌜ length (now words) ≡ WORDS ⌝ }
+    ensures { λ r. ⌜ ((ts : List ℤ) → tells one (firstOn (grid (old words) ts) cell) ≡ bucketSays r) ⌝ }
+{
+    if cell >= CELL_COUNT {
+        return Bucket::Corrupt;
+    }
+    let bucket = words[FIRST + cell as usize];
+    if bucket >= BUCKET_COUNT {
+        return Bucket::Corrupt;
+    }
+    Bucket::At(bucket)
+}
+
 pub fn last_tuple(words: &[u32], cell: u32) -> LastTuple
     requires { ⌜ length (now words) ≡ WORDS ⌝ }
     ensures { λ r. ⌜ ((ts : List ℤ) → tells lastValues (lastOn (grid (old words) ts) cell) ≡ lastTupleSays r) ⌝ }
 {
-    if cell >= CELL_COUNT {
+    let found = first_bucket(words, cell);
+    let Bucket::At(bucket) = found else {
         return LastTuple::Corrupt;
-    }
-    let bucket = words[FIRST + cell as usize];
-    if bucket >= BUCKET_COUNT {
-        return LastTuple::Corrupt;
-    }
+    };
     let n = words[COUNT + bucket as usize];
     if n == 0 {
         return LastTuple::Corrupt;
@@ -86,14 +104,10 @@ pub fn lower_count(words: &mut [u32], cell: u32) -> Lowered
     requires { ⌜ length (now words) ≡ WORDS ⌝ }
     ensures { λ r. ⌜ OnWords words (Lowers cell r) ⌝ }
 {
-    if cell >= CELL_COUNT {
+    let found = first_bucket(words, cell);
+    let Bucket::At(bucket) = found else {
         return Lowered::Corrupt;
-    }
-    let at = FIRST + cell as usize;
-    let bucket = words[at];
-    if bucket >= BUCKET_COUNT {
-        return Lowered::Corrupt;
-    }
+    };
     let b = bucket as usize;
     let n = words[COUNT + b];
     if n == 0 {
@@ -110,7 +124,7 @@ pub fn lower_count(words: &mut [u32], cell: u32) -> Lowered
     if below > NO_BUCKET {
         return Lowered::Corrupt;
     }
-    words[at] = below;
+    words[FIRST + cell as usize] = below;
     words[COUNT + b] = 0;
     Lowered::Unlinked(bucket)
 }
@@ -252,13 +266,10 @@ pub fn write_tuple(
     requires { ⌜ (length (now words) ≡ WORDS) × (length (now times) ≡ TIMES) ⌝ }
     ensures { λ r. ⌜ OnGrid words times (Writes cell oid x y time r) ⌝ }
 {
-    if cell >= CELL_COUNT {
+    let found = first_bucket(words, cell);
+    let Bucket::At(bucket) = found else {
         return Written::Corrupt;
-    }
-    let bucket = words[FIRST + cell as usize];
-    if bucket >= BUCKET_COUNT {
-        return Written::Corrupt;
-    }
+    };
     let slot = words[COUNT + bucket as usize];
     if slot >= BUCKET_SLOTS {
         return Written::Corrupt;

@@ -18,7 +18,7 @@ use Rattle.words.specs.Part.{part}
 use Rattle.words.specs.Words.{cellsIn, putCells}
 use Rattle.layout.specs.Place.{onGrid, cellOf, placeValues}
 use Rattle.layout.specs.declared.place.Place.{Place}
-use Rattle.locks.specs.Lock.{take}
+use Rattle.locks.specs.Lock.{takeLock}
 use Rattle.slots.specs.Tuple.{Tuples}
 use Rattle.index.specs.Search.{search as sought}
 use Rattle.index.specs.Places.{readPlace}
@@ -30,7 +30,7 @@ use Rattle.tables.proofs.Grid.{put-cells}
 use Rattle.tables.proofs.Entries.{current-lent}
 use Rattle.cells.specs.On.{overwriteOn}
 use Rattle.base.proofs.Turns.{halts, moves}
-use Rattle.stage.specs.Turn.{advance, atEntry, draw}
+use Rattle.stage.specs.Turn.{advance, atEntry, draw, hold}
 use Rattle.stage.specs.declared.Stage.{Stage}
 use Rattle.stage.specs.declared.Stage.the-variants.{MakeRoom, ReleaseObject}
 use Rattle.choose.specs.Choose.{placingOf, rewrite, lockNew, choose, stage8}
@@ -60,15 +60,18 @@ lock-way t corrupt = refl
 lock-way t blocked = refl
 lock-way t (done l) = refl
 
-lock-on : (t : Tables) (c owner : ℕ) → lockNewOn t c owner ≡ lift (withCells t) (andThen (take (t .cells) c owner) (λ l. advance MakeRoom l))
-unfolding lockNewOn lockNew
-lock-on t c owner = lock-way t (take (t .cells) c owner)
+lock-on : (t : Tables) (c owner : ℕ) → lockNewOn t c owner ≡ lift (withCells t) (hold (t .cells) c owner MakeRoom)
+unfolding lockNewOn lockNew hold
+lock-on t c owner = lock-way t (takeLock (t .cells) c owner)
 
-pub locks-new : (w : List ℕ) (ts : List ℤ) → length w ≡ WORDS → (c owner : ℕ) (s : Said Stage) (v : List ℕ) → length v ≡ 256 → turned (cellsIn w) (andThen (take (cellsIn w) c owner) (λ l. advance MakeRoom l)) ≡ (s, v) → turned (grid w ts) (lockNewOn (grid w ts) c owner) ≡ (s, grid (putCells w v) ts)
+pub locks-new : (w : List ℕ) (ts : List ℤ) → length w ≡ WORDS → (c owner : ℕ) (s : Said Stage) (v : List ℕ) →
+    length v ≡ 256 →
+    turned (cellsIn w) (hold (cellsIn w) c owner MakeRoom) ≡ (s, v) →
+    turned (grid w ts) (lockNewOn (grid w ts) c owner) ≡ (s, grid (putCells w v) ts)
 unfolding grid
 locks-new w ts w# c owner s v v# e =
     ap (turned (grid w ts)) (lock-on (grid w ts) c owner)
-    ∙ lifted (withCells (grid w ts)) (cellsIn w) (andThen (take (cellsIn w) c owner) (λ l. advance MakeRoom l)) s v e
+    ∙ lifted (withCells (grid w ts)) (cellsIn w) (hold (cellsIn w) c owner MakeRoom) s v e
     ∙ ap (λ (t : Tables). (s, t)) (sym (put-cells w ts w# v v#))
 
 -- ---- the tuple overwritten

@@ -7,12 +7,11 @@ ghost use lib.ListN.{length};
 ghost use Rattle.base.specs.Outcome.{tells};
 ghost use Rattle.layout.specs.Place.{placeValues, placeReadSays};
 ghost use Rattle.tables.specs.Grid.{grid};
-ghost use Rattle.choose.specs.On.{hereOn, rewriteOn, lockNewOn, stage8On, lockFor};
+ghost use Rattle.choose.specs.On.{hereOn, rewriteOn, lockNewOn, stage8On};
 ghost use Rattle.tables.specs.Promise.{OnGrid, OnWords};
 ghost use Rattle.words.specs.Map.{TIMES, WORDS};
 ghost use Rattle.stage.specs.Promise.{Turns};
-ghost use Rattle.base.specs.Lent.{new, old};
-use base::Attempt;
+ghost use Rattle.base.specs.Lent.{old};
 use base::Change;
 use base::LAST_STAMP;
 use cells::overwrite_slot;
@@ -22,9 +21,9 @@ use layout::place::Place;
 use layout::place::PlaceRead;
 use layout::place::cell_of;
 use layout::place::on_grid;
-use locks::take_lock;
 use stage::Stage;
 use stage::Turn;
+use stage::hold_lock;
 use tables::seek::seek_object;
 use words::CELLS;
 use words::CLOCK;
@@ -59,24 +58,17 @@ fn rewrite_tuple(
     Turn::Advanced(Stage::ReleaseObject)
 }
 
-// Locks the cell into which the tuple will be written, among the locks of the cells.
-fn hold_cell(cells: &mut [u32], cell: u32, owner: u32) -> Turn
-    ensures { λ r. ⌜ Turns (λ c. lockFor c cell owner) r (old cells) (new cells) ⌝ }
-{
-    let taken = take_lock(cells, cell as usize, owner);
-    match taken {
-        Attempt::Corrupt => Turn::Corrupt,
-        Attempt::Blocked => Turn::Blocked,
-        Attempt::Done => Turn::Advanced(Stage::MakeRoom),
-    }
-}
-
-// The same, among all tables.
+// Locks the cell into which the tuple will be written.
 fn lock_new(words: &mut [u32], cell: u32, owner: u32) -> Turn
     requires { ⌜ length (now words) ≡ WORDS ⌝ }
     ensures { λ r. ⌜ OnWords words (Turns (λ t. lockNewOn t cell owner) r) ⌝ }
 {
-    hold_cell(&mut words[CELLS..FIRST], cell, owner)
+    hold_lock(
+        &mut words[CELLS..FIRST],
+        cell as usize,
+        owner,
+        Stage::MakeRoom,
+    )
 }
 
 // The current place of an object that is to stand at a point of the grid.

@@ -18,6 +18,7 @@ use layout::place::PlaceRead;
 use slots::tuple::delete_tuple;
 use stage::Stage;
 use stage::Turn;
+use stage::turn_after;
 use tables::seek::seek_object;
 use words::CELLS;
 use words::CLOCK;
@@ -32,10 +33,7 @@ pub fn raise(words: &mut [u32], place: Place) -> Turn
     ensures { λ r. ⌜ OnWords words (Turns (λ t. stage11On t place) r) ⌝ }
 {
     let raised = raise_count(&mut words[COUNT..NEXT], place.bucket);
-    match raised {
-        Change::Corrupt => Turn::Corrupt,
-        Change::Done => Turn::Advanced(Stage::SwitchPlace(place)),
-    }
+    turn_after(raised, Stage::SwitchPlace(place))
 }
 
 // Shifts the places of an entry of the index.

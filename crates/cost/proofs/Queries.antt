@@ -35,7 +35,7 @@ use Rattle.runs.proofs.Runs.{call-good}
 use Rattle.runs.proofs.SimScan.{scanned}
 use Rattle.runs.proofs.Swept.{is-leave, is-read}
 use Rattle.runs.proofs.View.{view}
-use Rattle.cost.specs.Account.{Seen, Event, eventOf, Deed, deed, deedOf, when, known, Tally, tally, stepOf, Sweep, StepFits}
+use Rattle.cost.specs.Account.{Seen, Event, eventOf, Deed, deed, deedOf, onlyIf, known, Tally, tally, stepOf, Sweep, StepFits}
 use Rattle.cost.proofs.Aside.{Apart, aside}
 use Rattle.cost.proofs.Chain.{seenBy}
 use Rattle.cost.proofs.Lies.{may-same}
@@ -64,11 +64,11 @@ module _ (e : Event) (past : List Event) (g : Grid) (R : Rel past g) (l : ℕ) (
   stays = tally-blocked S (tally past l) c rest cells none-left locked
 
   tally-same : (q : ℕ) → tally (e ∷ past) q ≡ tally past q
-  unfolding tally when
+  unfolding tally onlyIf
   tally-same q = rw (is, sees, ap (λ (p : ℕ × Tally). p .1) stays) (at-or q l (λ z. rw z (upd-same (tally past) l (tally past l))) (λ z. upd-other (tally past) l (tally past l) q z))
 
   apart : (s : Sweep) → Apart e past g g s
-  unfolding when
+  unfolding onlyIf
   apart s = record { step = rw is (and-false (eqb l (s .lane))); going = rw is (and-false (eqb l (s .lane))) }
 
   rel-blocked : Rel (e ∷ past) g

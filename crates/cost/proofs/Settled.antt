@@ -26,7 +26,7 @@ use Rattle.runs.specs.Quiet.{updater}
 use Rattle.runs.specs.Sweeps.{query}
 use Rattle.runs.proofs.Every.{Good}
 use Rattle.runs.proofs.View.{view}
-use Rattle.cost.specs.Account.{Event, deed, settledDeed, when, underWay, known, Tally, tally, Sweep, abandon, sweeps}
+use Rattle.cost.specs.Account.{Event, deed, settledDeed, onlyIf, underWay, known, Tally, tally, Sweep, abandon, sweeps}
 use Rattle.cost.proofs.Live.{live-bounded}
 use Rattle.cost.proofs.Match.{Match}
 use Rattle.cost.proofs.Rel.{busy, Fits, Rel, all-map}
@@ -65,15 +65,15 @@ module _ (e : Event) (past : List Event) (g g′ : Grid) (ks : List ℕ) (is : d
     (idle : (l : ℕ) → l < 8 → updater g′ l .stage ≡ IdleStage)
     (still : (q : ℕ) → q < 4 → query g′ q .stage ≡ Idle) (kept : (k : ℕ) → T (view g′ .known k) → In k ks) where
   under-none : (l : ℕ) → underWay (e ∷ past) l ≡ none
-  unfolding underWay when
+  unfolding underWay onlyIf
   under-none l = rw is
 
   known-kept : known (e ∷ past) ≡ ks
-  unfolding known when
+  unfolding known onlyIf
   known-kept = rw is
 
   sweeps-left : sweeps (e ∷ past) ≡ map abandon (sweeps past)
-  unfolding sweeps when
+  unfolding sweeps onlyIf
   sweeps-left = rw is
 
   -- one that was over stays; one under way is abandoned, and had fewer steps than it may have

@@ -16,7 +16,7 @@ use Rattle.runs.specs.Rest.{AtRest}
 use Rattle.runs.specs.Sweeps.{query}
 use Rattle.runs.proofs.Every.{Good}
 use Rattle.runs.proofs.View.{view}
-use Rattle.cost.specs.Account.{Event, eventOf, settled, history, deed, deedOf, accepted, when, tally, Sweep, Bounded, AccountedOf, Accounted, AccountedFrom}
+use Rattle.cost.specs.Account.{Event, eventOf, settled, history, deed, deedOf, accepted, onlyIf, tally, Sweep, Bounded, AccountedOf, Accounted, AccountedFrom}
 use Rattle.cost.proofs.Live.{live-bounded}
 use Rattle.cost.proofs.Claims.{Claim, no-claim}
 use Rattle.cost.proofs.Collected.{keep-collect}
@@ -28,7 +28,7 @@ use Rattle.cost.proofs.Updates.{keep-update-start, keep-update-step}
 
 -- a call of an update is neither a step of a query nor a collection
 no-steps : (c : Call) (g : Grid) → ((n : ℕ) → accepted c n .goes ≡ none) → ((n : ℕ) → accepted c n .collects ≡ none) → (deed (eventOf c g) .goes ≡ none) × (deed (eventOf c g) .collects ≡ none)
-unfolding deed pick when
+unfolding deed pick onlyIf
 no-steps c g a b = go (acceptedNumber (call c g .0 .number))
   where
     go : (x : Bool) → (pick x (accepted c (call c g .0 .number)) (deedOf none none none none none) .goes ≡ none) × (pick x (accepted c (call c g .0 .number)) (deedOf none none none none none) .collects ≡ none)
@@ -87,7 +87,7 @@ accounted cs = accounted-of cs [] emptyGrid empty-rel nothing-yet
 
 -- AND FROM ANY GOOD GRID AT REST, with a list of the objects that it knows
 pub accounted-from : (g : Grid) → Good g → AtRest g → (ks : List ℕ) → ((k : ℕ) → T (view g .known k) → In k ks) → (cs : List Call) → AccountedFrom g ks cs
-unfolding deed when
+unfolding deed onlyIf
 accounted-from g G Q ks kept cs =
     accounted-of cs (settled ks ∷ []) g (rel-settled (settled ks) [] emptyGrid g ks refl empty-rel G (Q .updates) (Q .queries) kept)
     (and-then (no-claim (settled ks) [] refl refl) nothing-yet)

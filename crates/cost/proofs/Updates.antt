@@ -14,7 +14,7 @@ use Rattle.base.specs.Outcome.{Outcome, blocked, done, pick}
 use Rattle.base.specs.Table.{at, upd}
 use Rattle.base.proofs.Table.{at-or, by-test, upd-same, upd-other, clash}
 use Rattle.layout.specs.Place.{cellOf}
-use Rattle.index.specs.Index.{lookup}
+use Rattle.index.specs.Index.{entryFor}
 use Rattle.stage.specs.Turn.{Move, isIdle}
 use Rattle.stage.specs.declared.Stage.{Stage}
 use Rattle.stage.specs.declared.Stage.the-variants.{Idle, TakeObject}
@@ -35,7 +35,7 @@ use Rattle.runs.proofs.Sim.{stepped}
 use Rattle.runs.proofs.SimStart.{entered-known}
 use Rattle.runs.proofs.Stages.{Kept, still, on, stage-kept}
 use Rattle.runs.proofs.View.{view, knownF}
-use Rattle.cost.specs.Account.{Event, eventOf, deed, deedOf, when, underWay, among, known, tally}
+use Rattle.cost.specs.Account.{Event, eventOf, deed, deedOf, onlyIf, underWay, among, known, tally}
 use Rattle.cost.proofs.Aside.{new, no-step, no-tally, aside}
 use Rattle.cost.proofs.CallKinds.{rel-nothing}
 use Rattle.cost.proofs.Lies.{May, may-step, may-start}
@@ -76,7 +76,7 @@ module _ (past : List Event) (g : Grid) (R : Rel past g) (l k x y : ℕ) (e : Ev
   g′ = gridOf t′ us′ (g .queries)
 
   known-more : known (e ∷ past) ≡ pick (among k (known past)) (known past) (k ∷ known past)
-  unfolding known when
+  unfolding known onlyIf
   known-more = rw is
 
   wider : (j : ℕ) → In j (known past) → In j (known (e ∷ past))
@@ -86,14 +86,14 @@ module _ (past : List Event) (g : Grid) (R : Rel past g) (l k x y : ℕ) (e : Ev
   unfolding view
   knows j t =
       let S = R .good .shape .index in
-      let more : (λ (i : ℕ). knownF (lookup (t′ .index) i)) ≡ upd (λ (i : ℕ). knownF (lookup (g .tables .index) i)) k true = rw (B .tables) (entered-known k S (B .some) (B .entered)) in
-      let t₁ : T (upd (λ (i : ℕ). knownF (lookup (g .tables .index) i)) k true j) = subst (λ (f : ℕ → Bool). T (f j)) more t in
+      let more : (λ (i : ℕ). knownF (entryFor (t′ .index) i)) ≡ upd (λ (i : ℕ). knownF (entryFor (g .tables .index) i)) k true = rw (B .tables) (entered-known k S (B .some) (B .entered)) in
+      let t₁ : T (upd (λ (i : ℕ). knownF (entryFor (g .tables .index) i)) k true j) = subst (λ (f : ℕ → Bool). T (f j)) more t in
       at-or j k
       (λ z. rw (z, known-more) (in-new k (known past) (among k (known past)) refl))
-      (λ z. wider j (R .knows j (rw (upd-other (λ (i : ℕ). knownF (lookup (g .tables .index) i)) k true j z) at t₁)))
+      (λ z. wider j (R .knows j (rw (upd-other (λ (i : ℕ). knownF (entryFor (g .tables .index) i)) k true j z) at t₁)))
 
   ties : (j : ℕ) → j < 8 → underWay (e ∷ past) j ≡ busy (updater g′ j)
-  unfolding underWay when busy isIdle pick
+  unfolding underWay onlyIf busy isIdle pick
   ties j j< = at-or j l
       (λ z.
       let lane : updater g′ j ≡ u = rw (B .updaters, z) (getD-set-same (g .updaters) l u idleUpdater (omega (arith, B .lane, R .good .shape .updaters))) in
@@ -103,7 +103,7 @@ module _ (past : List Event) (g : Grid) (R : Rel past g) (l k x y : ℕ) (e : Ev
       rw (is, lane) (upd-other (underWay past) l (some k) j z ∙ R .ties j j<))
 
   may : (j c : ℕ) → May g′ j c → May g j c ⊎ (T (new e j) × (c ≡ cellOf x y))
-  unfolding when
+  unfolding onlyIf
   may j c m = ⊎-elim (λ w. inl w)
       (λ (w : (k ≡ j) × (cellOf x y ≡ c)). inr (rw (is, w .0) (eqb-refl j), sym (w .1)))
       (may-start g us′ t′ l u (B .updaters) (B .lane) (R .good) (rw (B .tables)) (rw (B .tables)) (rw (B .tables)) (rw (B .tables)) j c m)
@@ -121,7 +121,7 @@ module _ (past : List Event) (g : Grid) (R : Rel past g) (l : ℕ) (l< : l < 8) 
   g₁ = stepped g l m
 
   step-ties : (j : ℕ) → j < 8 → underWay (e ∷ past) j ≡ busy (updater g₁ j)
-  unfolding underWay when busy pick
+  unfolding underWay onlyIf busy pick
   step-ties j j< = at-or j l
       (λ z.
       let lane : updater g₁ j ≡ withStage (updater g l) (m .next) = rw z (getD-set-same (g .updaters) l (withStage (updater g l) (m .next)) idleUpdater (omega (arith, R .good .shape .updaters))) in

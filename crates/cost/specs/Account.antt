@@ -14,7 +14,7 @@ use Rattle.layout.specs.Question.{walk, cellsTouched}
 use Rattle.layout.specs.declared.question.Question.{Question}
 use Rattle.cells.specs.Walk.{chainOf, tuplesIn}
 use Rattle.calls.specs.Call.{acceptedNumber}
-use Rattle.base.specs.Sums.{bit, count}
+use Rattle.base.specs.Sums.{bit, countBelow}
 use Rattle.grid.specs.Run.{Grid, Call, startUpdate, stepUpdate, startQuery, stepQuery, collect, Answer, answerOf, call, emptyGrid}
 
 -- ---- WHAT HAPPENED
@@ -76,23 +76,23 @@ accepted (stepQuery l) n = deedOf none none none (some (l, n)) none
 accepted (collect l m) n = deedOf none none none none (some l)
 
 -- f of what is there, or else x
-unfoldable pub when : {A B : Type 0} → Option A → (A → B) → B → B
-when none f x = x
-when (some a) f x = f a
+unfoldable pub onlyIf : {A B : Type 0} → Option A → (A → B) → B → B
+onlyIf none f x = x
+onlyIf (some a) f x = f a
 
 -- a refused call comes to nothing
 unfoldable pub deed : Event → Deed
 deed e =
     let n = e .answer .number in
-    when (e .settles) settledDeed (pick (acceptedNumber n) (accepted (e .call) n) (deedOf none none none none none))
+    onlyIf (e .settles) settledDeed (pick (acceptedNumber n) (accepted (e .call) n) (deedOf none none none none none))
 
 -- the object whose update is under way in each lane
 unfoldable pub underWay : List Event → ℕ → Option ℕ
 underWay [] = λ l. none
 underWay (e ∷ past) =
     let f = underWay past in
-    when (deed e .settles) (λ _ l. none)
-    (when (deed e .begins) (λ b. upd f (b .0) (some (b .1))) (when (deed e .ends) (λ l. upd f l none) f))
+    onlyIf (deed e .settles) (λ _ l. none)
+    (onlyIf (deed e .begins) (λ b. upd f (b .0) (some (b .1))) (onlyIf (deed e .ends) (λ l. upd f l none) f))
 
 -- the objects known, each once, from the first accepted start of an update
 unfoldable pub among : ℕ → List ℕ → Bool
@@ -103,8 +103,8 @@ unfoldable pub known : List Event → List ℕ
 known [] = []
 known (e ∷ past) =
     let ks = known past in
-    when (deed e .settles) (λ kept. kept)
-    (when (deed e .begins) (λ b. pick (among (b .1) ks) ks (b .1 ∷ ks)) ks)
+    onlyIf (deed e .settles) (λ kept. kept)
+    (onlyIf (deed e .begins) (λ b. pick (among (b .1) ks) ks (b .1 ∷ ks)) ks)
 
 -- ---- THE TALLY of a query lane: the cells still to enter, the rest, the count
 pub record Tally : Type 0 where
@@ -122,7 +122,7 @@ pub record Found : Type 0 where
   pub tuples : ℕ
 
 abbrev pub found : Seen → ℕ → Found
-found s c = when (chainOf (s .first) (s .next) c) (λ l. record { cell = c; buckets = length l; tuples = tuplesIn (s .count) l }) (record { cell = c; buckets = 0; tuples = 0 })
+found s c = onlyIf (chainOf (s .first) (s .next) c) (λ l. record { cell = c; buckets = length l; tuples = tuplesIn (s .count) l }) (record { cell = c; buckets = 0; tuples = 0 })
 
 -- 22 if no cell and no rest remain, else 0
 abbrev pub ending : List ℕ → ℕ → ℕ
@@ -141,9 +141,9 @@ unfoldable pub tally : List Event → ℕ → Tally
 tally [] = λ l. tallyOf [] 0 0
 tally (e ∷ past) =
     let f = tally past in
-    when (deed e .settles) (λ _ l. tallyOf [] 0 0)
-    (when (deed e .asks) (λ a. upd f (a .0) (tallyOf (walk (a .1)) 0 0))
-    (when (deed e .goes) (λ a. upd f (a .0) (stepOf (e .seen) (f (a .0)) .1)) f))
+    onlyIf (deed e .settles) (λ _ l. tallyOf [] 0 0)
+    (onlyIf (deed e .asks) (λ a. upd f (a .0) (tallyOf (walk (a .1)) 0 0))
+    (onlyIf (deed e .goes) (λ a. upd f (a .0) (stepOf (e .seen) (f (a .0)) .1)) f))
 
 -- ---- THE QUERIES OF A LIST, those collected long ago too. One that is over stays as it was then.
 -- steps: accepted and not blocked; finished: one gave 22; over: finished, or abandoned because everything was settled; entered: its cells, the last one first, with what was found there at the step that entered them;
@@ -162,22 +162,22 @@ pub record Sweep : Type 0 where
 abbrev pub follow : Event → List Event → Sweep → Sweep
 follow e past s =
     let t = tally past (s .lane) in
-    let step : Bool = when (deed e .goes) (λ a. eqb (a .0) (s .lane) && not (eqb (a .1) 20)) false in
+    let step : Bool = onlyIf (deed e .goes) (λ a. eqb (a .0) (s .lane) && not (eqb (a .1) 20)) false in
     pick (s .over) s
     (record {
       lane = s .lane;
       question = s .question;
       steps = s .steps + bit step;
-      finished = when (deed e .goes) (λ a. eqb (a .0) (s .lane) && eqb (a .1) 22) false;
-      over = when (deed e .goes) (λ a. eqb (a .0) (s .lane) && eqb (a .1) 22) false;
+      finished = onlyIf (deed e .goes) (λ a. eqb (a .0) (s .lane) && eqb (a .1) 22) false;
+      over = onlyIf (deed e .goes) (λ a. eqb (a .0) (s .lane) && eqb (a .1) 22) false;
       entered = pick (step && eqb (t .rest) 0) (found (e .seen) (at (t .cells) 0) ∷ s .entered) (s .entered);
-      updates = λ k. s .updates k + bit (when (deed e .begins) (λ b. eqb (b .1) k) false);
+      updates = λ k. s .updates k + bit (onlyIf (deed e .begins) (λ b. eqb (b .1) k) false);
       objects = known (e ∷ past);
     })
 
 -- at its start: the updates under way count
 abbrev pub opened : ℕ → Question → List Event → Sweep
-opened l u past = record { lane = l; question = u; steps = 0; finished = false; over = false; entered = []; updates = λ k. count 8 (λ j. when (underWay past j) (λ i. eqb i k) false); objects = known past }
+opened l u past = record { lane = l; question = u; steps = 0; finished = false; over = false; entered = []; updates = λ k. countBelow 8 (λ j. onlyIf (underWay past j) (λ i. eqb i k) false); objects = known past }
 
 -- one that is not over is abandoned: it stays as it was
 abbrev pub abandon : Sweep → Sweep
@@ -196,8 +196,8 @@ unfoldable pub sweeps : List Event → List Sweep
 sweeps [] = []
 sweeps (e ∷ past) =
     let ss = map (follow e past) (sweeps past) in
-    when (deed e .settles) (λ _. map abandon (sweeps past))
-    (when (deed e .asks) (λ a. opened (a .0) (a .1) past ∷ ss) ss)
+    onlyIf (deed e .settles) (λ _. map abandon (sweeps past))
+    (onlyIf (deed e .asks) (λ a. opened (a .0) (a .1) past ∷ ss) ss)
 
 unfoldable pub latest : ℕ → List Sweep → Option Sweep
 latest q [] = none

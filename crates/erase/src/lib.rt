@@ -7,9 +7,7 @@ ghost use Rattle.erase.specs.On.{stage4On, stage5On, stage6On, movedOn, 
 ghost use Rattle.tables.specs.Promise.{OnGrid, OnWords};
 ghost use Rattle.words.specs.Map.{TIMES, WORDS};
 ghost use Rattle.stage.specs.Promise.{Turns};
-use base::Attempt;
 use base::CELL_COUNT;
-use base::Change;
 use cells::LastTuple;
 use cells::Lowered;
 use cells::copy_slot;
@@ -25,6 +23,8 @@ use slots::tuple::Sign;
 use slots::tuple::read_sign;
 use stage::Stage;
 use stage::Turn;
+use stage::turn_after;
+use stage::turn_attempted;
 use tables::seek::seek_object;
 use words::CELLS;
 use words::CURRENT;
@@ -48,10 +48,7 @@ pub fn copy_last(words: &mut [u32], times: &mut [i32], place: Place, moved: u32)
         place.bucket,
         place.slot,
     );
-    match copied {
-        Change::Corrupt => Turn::Corrupt,
-        Change::Done => Turn::Advanced(Stage::LowerCount(place, moved)),
-    }
+    turn_after(copied, Stage::LowerCount(place, moved))
 }
 
 // stage 5: lowers the first bucket's count; at zero the bucket is unlinked, and returned next
@@ -73,11 +70,7 @@ pub fn give_back(words: &mut [u32], place: Place, moved: u32, bucket: u32) -> Tu
     ensures { λ r. ⌜ OnWords words (Turns (λ t. stage6On t place moved bucket) r) ⌝ }
 {
     let returned = return_bucket(words, bucket);
-    match returned {
-        Attempt::Corrupt => Turn::Corrupt,
-        Attempt::Blocked => Turn::Blocked,
-        Attempt::Done => Turn::Advanced(Stage::ErasePlace(place, moved)),
-    }
+    turn_attempted(returned, Stage::ErasePlace(place, moved))
 }
 
 // stage 7: erases the object's previous place and releases the cell; where another object's tuple moved, in correct_moved

@@ -12,7 +12,7 @@ use Rattle.base.specs.Outcome.{pick}
 use Rattle.base.specs.Table.{at}
 use Rattle.layout.specs.Place.{cellOf}
 use Rattle.index.specs.Search.{search, known}
-use Rattle.index.specs.Index.{Entry, lookup, entryOf, position}
+use Rattle.index.specs.Index.{Entry, entryFor, entryOf, position}
 use Rattle.index.specs.declared.search.Search.{Search}
 use Rattle.index.specs.declared.search.Search.the-variants.{Found, Empty}
 use Rattle.pool.specs.Pool.{members, size}
@@ -73,7 +73,7 @@ slotOf g i = at (g .tables .tuples .oid) i ∷ signed (getD (g .tables .tuples .
 
 -- the places of object k, and the tuple at slot i
 named : List Call → ℕ → ℕ → List ℕ
-named cs k i = let g = run cs emptyGrid in places (lookup (g .tables .index) k) ++ slotOf g i
+named cs k i = let g = run cs emptyGrid in places (entryFor (g .tables .index) k) ++ slotOf g i
 
 -- five objects in one cell
 abbrev crowd : List Call
@@ -147,7 +147,7 @@ roomAt cs =
     let g = run cs emptyGrid in
     let t = g .tables in
     at (t .first) 3 ∷ size (t .pool)
-    ∷ inHand (getD (g .updaters) 0 idleUpdater .stage) ++ drop 1 (places (lookup (t .index) 9))
+    ∷ inHand (getD (g .updaters) 0 idleUpdater .stage) ++ drop 1 (places (entryFor (t .index) 9))
 
 -- ---- the index
 
@@ -180,7 +180,7 @@ locksOf cs =
     let t = g .tables in
     let u = getD (g .updaters) 0 idleUpdater in
     oneOr (heldCell (u .stage) (cellOf (u .x) (u .y))) ++ heldObjects (u .stage) (u .oid)
-    ++ at (t .cells) 0 ∷ at (t .cells) 2 ∷ lockOf (lookup (t .index) 7) ∷ lockOf (lookup (t .index) 8) ∷ []
+    ++ at (t .cells) 0 ∷ at (t .cells) 2 ∷ lockOf (entryFor (t .index) 7) ∷ lockOf (entryFor (t .index) 8) ∷ []
 
 -- 7 goes on a second time, with 8's tuple moved into its slot: up to stage 5, and to stage 10
 abbrev moving : ℕ → List Call
@@ -251,7 +251,7 @@ table = countRows ++ movedRows ++ bucketRows ++ indexRows
 -- what the computations open
 unfoldable openedHere : ℕ
 unfolding opened counts each countsIn along readersOf places signed slotOf named size found chained awaiting returning
-    standing lookup entryOf position listOr oneOr inChains toReturn meet many howOften howOftenIn roomAt foundAt entries
+    standing entryFor entryOf position listOr oneOr inChains toReturn meet many howOften howOftenIn roomAt foundAt entries
     lockOf locksOf spotAt atWork inHand heldCell heldObjects
 openedHere = 0
 

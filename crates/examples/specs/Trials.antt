@@ -10,17 +10,17 @@ use Rattle.base.specs.Outcome.{pick, one, need, await, andThen}
 use Rattle.layout.specs.Place.{onGrid, cellOf, encode, decode}
 use Rattle.layout.specs.Question.{corners, cornersOn, ordered, inside, visited, next, walk, rowsFrom, columns, rows, cellsTouched}
 use Rattle.index.specs.Search.{start as hash, search, probe, after as after#, known}
-use Rattle.index.specs.Index.{insert, enterAt, empty}
+use Rattle.index.specs.Index.{enter, enterAt, empty}
 use Rattle.index.specs.Places.{readPlace, putPlace, erasePlace, shift}
-use Rattle.pool.specs.Pool.{height, withHeight, members, fresh, take as pool-take, give as pool-give}
-use Rattle.locks.specs.Lock.{look, take, release}
+use Rattle.pool.specs.Pool.{height, withHeight, members, fresh, takeTop as pool-take, give as pool-give}
+use Rattle.locks.specs.Lock.{look, takeLock, release}
 use Rattle.slots.specs.Stamp.{stampOf, stampRange}
 use Rattle.slots.specs.Tuple.{needSlot, copy, overwrite, delete, sign, signOf, seen, read, seenBy}
-use Rattle.cells.specs.Chain.{firstBucket, needSome, last, lower, giveBack, push, makeRoom, write, raise}
+use Rattle.cells.specs.Chain.{firstBucket, needSome, lastIn, lower, giveBack, push, makeRoom, write, raise}
 use Rattle.stage.specs.declared.Stage.{Stage}
 use Rattle.stage.specs.declared.Stage.the-variants.{Idle, TakeObject, LockCell, LookLast, CopyLast, LowerCount, ReturnBucket, ErasePlace, ChooseCell, MakeRoom, WriteTuple, RaiseCount, SwitchPlace, DeleteOld, ReleaseObject}
-use Rattle.stage.specs.Turn.{atEntry, attempt, draw, isIdle}
-use Rattle.acquire.specs.Acquire.{hold, stage1, stage2, stage3, goBack, stage14}
+use Rattle.stage.specs.Turn.{atEntry, attempt, draw, isIdle, hold}
+use Rattle.acquire.specs.Acquire.{stage1, stage2, stage3, goBack, stage14}
 use Rattle.erase.specs.Erase.{stage4, stage5, stage6, stage7, freeCell, correct, correctMoved}
 use Rattle.choose.specs.Choose.{rewrite, lockNew, choose, stage8}
 use Rattle.write.specs.Write.{stage9, stage10}
@@ -39,8 +39,8 @@ use Rattle.collect.specs.Collect.{collectQuery, entriesFrom}
 use Rattle.grid.specs.Run.{Grid, emptyGrid, Call, startUpdate, stepUpdate, startQuery, stepQuery, collect, Answer, call, run, answers}
 use Rattle.base.specs.Table.{upd}
 use Rattle.cells.specs.Walk.{chainOf, bucketsFrom, inFront, tuplesIn}
-use Rattle.base.specs.Sums.{sum, bit}
-use Rattle.cost.specs.Account.{Event, history, deed, when, underWay, among, known as knownOf, tally, tallyStep, stepOf, Sweep, sweeps as queriesOf, latest, total}
+use Rattle.base.specs.Sums.{sumBelow, bit}
+use Rattle.cost.specs.Account.{Event, history, deed, onlyIf, underWay, among, known as knownOf, tally, tallyStep, stepOf, Sweep, sweeps as queriesOf, latest, total}
 
 pub record Row : Type 0 where
   pub gives : List ℕ
@@ -96,7 +96,7 @@ account cs = let past = history cs emptyGrid [] in accountBy (latest 0 (queriesO
 -- the tally's answers to the accepted steps of queries, the last one first
 tallied : List Event → List ℕ
 tallied [] = []
-tallied (e ∷ past) = when (deed e .goes) (λ a. stepOf (e .seen) (tally past (a .0)) .0 ∷ tallied past) (tallied past)
+tallied (e ∷ past) = onlyIf (deed e .goes) (λ a. stepOf (e .seen) (tally past (a .0)) .0 ∷ tallied past) (tallied past)
 
 -- the number of a stage in document 01, 0 for idle
 stageNo : Stage → ℕ
@@ -284,16 +284,16 @@ both s t h k = rw (gives-both s t, says-both s t, h, k)
 
 -- what the computations open
 unfoldable pub opened : ℕ
-unfolding gives says cellsTouched stages stageNo upd during duringBy account accountBy tallied history deed when underWay among
+unfolding gives says cellsTouched stages stageNo upd during duringBy account accountBy tallied history deed onlyIf underWay among
     knownOf tally tallyStep queriesOf latest total walk rowsFrom columns rows chainOf bucketsFrom inFront tuplesIn
-    sum bit corners cornersOn ordered onGrid cellOf pick hash numbersOf sweeps collected steps call run answers
+    sumBelow bit corners cornersOn ordered onGrid cellOf pick hash numbersOf sweeps collected steps call run answers
     emptyGrid emptyTables inside visited next addReader takeReader leaveFor lookFrom enlist note counted afterCell
     enterFree enterStep leaveLast leaveStep comparable consider readStep scanOn queryStart queryStep idleQueries
     isFinished isIdleQuery collectQuery entriesFrom seen read seenBy idleUpdaters after updateStart updateStep
     stepped started stageOn lift unless isIdle hasRoom rightLengths rightCells rightTuples rightIndex rightHits
-    need await andThen atEntry attempt draw look take release search probe after# known insert enterAt empty
+    need await andThen atEntry attempt draw look takeLock release search probe after# known enter enterAt empty
     members height withHeight pool-take pool-give fresh numbersFrom encode decode readPlace putPlace erasePlace
-    shift stampOf needSlot stampRange copy overwrite delete sign signOf firstBucket needSome last lower giveBack
+    shift stampOf needSlot stampRange copy overwrite delete sign signOf firstBucket needSome lastIn lower giveBack
     push makeRoom write raise hold stage1 stage2 stage3 goBack stage14 stage4 stage5 stage6 stage7 freeCell
     correct correctMoved rewrite lockNew choose stage8 stage9 stage10 stage11 stage12 stage13
 opened = 0

@@ -21,11 +21,11 @@ use Rattle.calls.specs.Call.{after, unless, acceptedNumber}
 use Rattle.queries.specs.Query.{isIdle as isIdleQuery, isFinished, queryStep}
 use Rattle.grid.specs.Run.{Grid, Call, startUpdate, stepUpdate, startQuery, stepQuery, collect, call, run, answers, emptyGrid}
 use Rattle.base.specs.Spot.{Hit, hit, Mem, onTop, deeper}
-use Rattle.base.specs.Sums.{sum, bit}
+use Rattle.base.specs.Sums.{sumBelow, bit}
 use Rattle.tuples.proofs.Common.{sum-one}
 use Rattle.runs.specs.Sweeps.{query}
 use Rattle.runs.proofs.Every.{Good, sized}
-use Rattle.cost.specs.Account.{Event as Entry, eventOf as entryOf, history, deed, deedOf, accepted, when, underWay as underWayBy, known, among, Sweep, follow, opened, sweeps, latest}
+use Rattle.cost.specs.Account.{Event as Entry, eventOf as entryOf, history, deed, deedOf, accepted, onlyIf, underWay as underWayBy, known, among, Sweep, follow, opened, sweeps, latest}
 use Rattle.cost.proofs.Rel.{followed, follow-over, follow-on, follow-lane, latest-map, Rel}
 use Rattle.cost.proofs.Start.{empty-rel}
 use Rattle.cost.proofs.Theorem.{rel-run}
@@ -48,13 +48,13 @@ record Tie (ds : List Entry) (es : List Event) : Type 0 where
 -- ---- counts
 
 -- a lane counts for an object in both histories
-lane-counts : (k : ℕ) (o : Option Hit) → when (objectOf o) (λ i. eqb i k) false ≡ ofObject k o
-unfolding when objectOf ofObject
+lane-counts : (k : ℕ) (o : Option Hit) → onlyIf (objectOf o) (λ i. eqb i k) false ≡ ofObject k o
+unfolding onlyIf objectOf ofObject
 lane-counts k none = refl
 lane-counts k (some h) = refl
 
-sum-same : (n : ℕ) (f g : ℕ → ℕ) → ((i : ℕ) → f i ≡ g i) → sum n f ≡ sum n g
-unfolding sum
+sum-same : (n : ℕ) (f g : ℕ → ℕ) → ((i : ℕ) → f i ≡ g i) → sumBelow n f ≡ sumBelow n g
+unfolding sumBelow
 sum-same zero f g h = refl
 sum-same (suc n) f g h = omega (arith, sum-same n f g h, h n)
 
@@ -156,7 +156,7 @@ module _ (e : Entry) (ds : List Entry) (es : List Event) (T : Tie ds es) where
   -- a query that is followed: the same question, and one update more where one begins
   going-on : (es′ : List Event) → ((q : ℕ) → question q es′ ≡ question q es)
       → ((q k : ℕ) → length (updates q k es′) ≡ length (updates q k es) + bit
-      (when (deed e .begins) (λ b. eqb (b .1) k) false))
+      (onlyIf (deed e .begins) (λ b. eqb (b .1) k) false))
       → (q : ℕ) (s′ : Sweep) → latest q
       (map (follow e ds) (sweeps ds)) ≡ some s′ → s′ .over ≡ false → SameQuery q s′ es′
   going-on es′ same more q s′ l f =
@@ -169,7 +169,7 @@ module _ (e : Entry) (ds : List Entry) (es : List Event) (T : Tie ds es) where
 
   -- nothing of these
   quiet : deed e .settles ≡ none → deed e .begins ≡ none → deed e .ends ≡ none → deed e .asks ≡ none → Tie (e ∷ ds) es
-  unfolding underWayBy known sweeps when bit
+  unfolding underWayBy known sweeps onlyIf bit
   quiet n b d a = record {
     under = λ l. rw (n, b, d) (T .under l);
     knows = λ k. rw (n, b) (T .knows k);
@@ -180,13 +180,13 @@ module _ (e : Entry) (ds : List Entry) (es : List Event) (T : Tie ds es) where
   module _ (l : ℕ) (h : Hit) (l< : l < 8) (free : underWay l es ≡ none)
       (is : deed e ≡ deedOf (some (l, h .oid)) none none none none) where
     begun-under : (j : ℕ) → underWayBy (e ∷ ds) j ≡ objectOf (underWay j (begins l h ∷ es))
-    unfolding underWayBy when objectOf
+    unfolding underWayBy onlyIf objectOf
     begun-under j = at-or j l
         (λ z. rw (is, z, under-begun l es h) (upd-same (underWayBy ds) l (some (h .oid))))
         (λ n. rw (is, begun-other l es h j n) (upd-other (underWayBy ds) l (some (h .oid)) j n ∙ T .under j))
 
     begun-knows : (k : ℕ) → In k (known (e ∷ ds)) ↔ Begun k (begins l h ∷ es)
-    unfolding known when
+    unfolding known onlyIf
     begun-knows k = rw is (
       λ i. ⊎-elim
           (λ (z : k ≡ h .oid). record { lane = l; hit = h; there = onTop; object = sym z })
@@ -199,7 +199,7 @@ module _ (e : Entry) (ds : List Entry) (es : List Event) (T : Tie ds es) where
     )
 
     begun : Tie (e ∷ ds) (begins l h ∷ es)
-    unfolding sweeps when question
+    unfolding sweeps onlyIf question
     begun = record {
       under = begun-under;
       knows = begun-knows;
@@ -211,13 +211,13 @@ module _ (e : Entry) (ds : List Entry) (es : List Event) (T : Tie ds es) where
   module _ (l : ℕ) (h : Hit) (l< : l < 8) (busy : underWay l es ≡ some h)
       (is : deed e ≡ deedOf none (some l) none none none) where
     over-under : (j : ℕ) → underWayBy (e ∷ ds) j ≡ objectOf (underWay j (ends l ∷ es))
-    unfolding underWayBy when objectOf
+    unfolding underWayBy onlyIf objectOf
     over-under j = at-or j l
         (λ z. rw (is, z, under-ended l es) (upd-same (underWayBy ds) l none))
         (λ n. rw (is, ended-other l es j n) (upd-other (underWayBy ds) l none j n ∙ T .under j))
 
     over : Tie (e ∷ ds) (ends l ∷ es)
-    unfolding known sweeps when question bit
+    unfolding known sweeps onlyIf question bit
     over = record {
       under = over-under;
       knows = λ k. rw is (λ i. and-later k es (ends l) (T .knows k .0 i), λ B. T .knows k .1 (not-ended k es l B));
@@ -233,9 +233,9 @@ module _ (e : Entry) (ds : List Entry) (es : List Event) (T : Tie ds es) where
     asked-now = record {
       asked = rw (eq-eqb j j refl);
       during = λ k.
-          let w = sum-same 8 (λ i. bit (when (underWayBy ds i) (λ m. eqb m k) false))
+          let w = sum-same 8 (λ i. bit (onlyIf (underWayBy ds i) (λ m. eqb m k) false))
           (λ i. bit (ofObject k (underWay i es)))
-          (λ i. ap bit (ap (λ (o : Option ℕ). when o (λ m. eqb m k) false) (T .under i) ∙ lane-counts k
+          (λ i. ap bit (ap (λ (o : Option ℕ). onlyIf o (λ m. eqb m k) false) (T .under i) ∙ lane-counts k
           (underWay i es))) in
           let z : length (ended j k (asks j u ∷ es)) ≡ 0 = rw (eq-eqb j j refl) in
           omega (arith, updates-count j k (asks j u ∷ es));
@@ -244,7 +244,7 @@ module _ (e : Entry) (ds : List Entry) (es : List Event) (T : Tie ds es) where
     -- one of another lane
     asked-other : (q : ℕ) → j ≢ q → (s : Sweep) → latest q (map (follow e ds) (sweeps ds)) ≡ some s
         → s .over ≡ false → SameQuery q s (asks j u ∷ es)
-    unfolding when bit underWay
+    unfolding onlyIf bit underWay
     asked-other q n s w f =
         let v = unfinished e ds q s w f in
         let K = T .going q (v .0) (v .1) (v .2) in
@@ -266,7 +266,7 @@ module _ (e : Entry) (ds : List Entry) (es : List Event) (T : Tie ds es) where
         (λ n. asked-other q n s (rw (ne-eqb j q n) at w) f)
 
     asked : Tie (e ∷ ds) (asks j u ∷ es)
-    unfolding underWayBy underWay known sweeps latest when
+    unfolding underWayBy underWay known sweeps latest onlyIf
     asked = record {
       under = λ l. rw is (T .under l);
       knows = λ k. rw is (λ i. and-later k es (asks j u) (T .knows k .0 i), λ B. T .knows k .1 (not-asked k es j u B));
@@ -365,7 +365,7 @@ history-last (x ∷ cs) c g ds = history-last cs c (call x g .1) (entryOf x g �
 -- an event that asks nothing
 sweeps-quiet : (e : Entry) (ds : List Entry) → deed e .settles ≡ none → deed e .asks ≡ none → sweeps
     (e ∷ ds) ≡ map (follow e ds) (sweeps ds)
-unfolding sweeps when
+unfolding sweeps onlyIf
 sweeps-quiet e ds n a = rw (n, a)
 
 -- a step that finishes a query found it under way
@@ -392,7 +392,7 @@ module _ (cs : List Call) (q : ℕ) (e : Finishes cs q) where
 
   finishing : (s : Sweep) × (latest q (sweeps (account (cs ++ stepQuery q ∷ []))) ≡ some s) × (s .finished ≡ true)
       × SameQuery q s (past cs)
-  unfolding when bit
+  unfolding onlyIf bit
   finishing =
       let R : Rel (account cs) g = rel-run cs [] emptyGrid empty-rel in
       let p = passed g (R .good) q e in

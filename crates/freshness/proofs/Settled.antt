@@ -14,7 +14,7 @@ use Rattle.base.proofs.Table.{clash}
 use Rattle.machine.specs.Store.{StoreOps, Store}
 use Rattle.layout.specs.Place.{decode}
 use Rattle.layout.specs.declared.place.Place.{Place}
-use Rattle.index.specs.Index.{Entry, lookup}
+use Rattle.index.specs.Index.{Entry, entryFor}
 use Rattle.stage.specs.declared.Stage.the-variants.{Idle}
 use Rattle.query.specs.declared.Scan.the-variants.{Idle as IdleQuery}
 use Rattle.tables.specs.Tables.{Tables}
@@ -125,14 +125,14 @@ unfolding view placesF standsIn entrySpot sel
 tells-view g G idle =
     let t = g .tables in
     record {
-      there = λ k p e. by-entry (lookup (t .index) k)
+      there = λ k p e. by-entry (entryFor (t .index) k)
           (λ z. let w : none ≡ some p = rw z at e in clash (cc))
           (λ en z.
           let w : placeF (en .current) ≡ some p = rw z at e in
           let gk : G .ghost .gh k ≡ plain (view g .ent k) = G .inv .free .free k (unlocked (G .inv) idle k) in
           let low = place-range (G .inv) kCur k p (rw gk e) in
           rw (z, tup-at (t .tuples) (p .bucket) (p .slot) (low .2)) (spot-place t (en .current) p w));
-      stays = λ k n e. by-entry (lookup (t .index) k)
+      stays = λ k n e. by-entry (entryFor (t .index) k)
           (λ z. n (rw z))
           (λ en z. let w : placeF (en .current) ≡ none = rw z at e in n (rw z (place-spot t (en .current) w)));
     }

@@ -15,7 +15,7 @@ use Rattle.base.proofs.Table.{clash}
 use Rattle.layout.specs.Place.{cellOf, decode}
 use Rattle.layout.specs.declared.place.Place.{Place}
 use Rattle.layout.proofs.Places.{decode-range}
-use Rattle.index.specs.Index.{Entry, lookup}
+use Rattle.index.specs.Index.{Entry, entryFor}
 use Rattle.grid.specs.Run.{Grid}
 use Rattle.tables.specs.Tables.{Tables}
 use Rattle.base.specs.Spot.{Spot}
@@ -75,7 +75,7 @@ module _ (es : List Event) (g : Grid) (F : Fine es g) (rest : NoneUnderWay es) w
     stands-at : (k : ℕ) (s : Spot) → standing k es ≡ some s → StandsAt t k s
     unfolding view
     stands-at k s e =
-        let w = current-some (lookup (t .index) k) (F .fresh .now .stays k (λ z. clash (cc))) in
+        let w = current-some (entryFor (t .index) k) (F .fresh .now .stays k (λ z. clash (cc))) in
         let p = w .1 in
         let X = S .current k (w .0) p (w .2) (w .3) in
         let H = X .0 in

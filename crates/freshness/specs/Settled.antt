@@ -7,7 +7,7 @@ use Prim.Native.Nat.{ℕ}
 use Rattle.base.specs.Outcome.{Outcome, corrupt, blocked, done}
 use Rattle.layout.specs.Place.{decode}
 use Rattle.layout.specs.declared.place.Place.{Place}
-use Rattle.index.specs.Index.{Entry, lookup}
+use Rattle.index.specs.Index.{Entry, entryFor}
 use Rattle.tables.specs.Tables.{Tables}
 use Rattle.grid.specs.Run.{Grid, Call, answers}
 use Rattle.base.specs.Spot.{Spot}
@@ -29,7 +29,7 @@ entrySpot t (some e) = spotAt t (decode (e .current))
 
 -- where an object stands
 unfoldable pub standsIn : Tables → ℕ → Option Spot
-standsIn t k = entrySpot t (lookup (t .index) k)
+standsIn t k = entrySpot t (entryFor (t .index) k)
 
 -- THE PAST of a list of calls that is made on a grid at rest
 unfoldable pub pastFrom : Grid → List Call → List Event

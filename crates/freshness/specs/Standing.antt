@@ -8,7 +8,7 @@ use Prim.Native.Nat.{ℕ}
 use Rattle.base.specs.Outcome.{done}
 use Rattle.layout.specs.Place.{cellOf, decode}
 use Rattle.layout.specs.declared.place.Place.{Place}
-use Rattle.index.specs.Index.{Entry, lookup}
+use Rattle.index.specs.Index.{Entry, entryFor}
 use Rattle.tables.specs.Tables.{Tables}
 use Rattle.base.specs.Spot.{Spot}
 use Rattle.slots.specs.Spot.{spotOf}
@@ -19,7 +19,7 @@ use Rattle.freshness.specs.History.{Event, standing}
 -- s; the tuple there is one of k, with a positive time, at s.
 pub record StandsAt (t : Tables) (k : ℕ) (s : Spot) : Type 0 where
   pub entry : Entry
-  pub known : lookup (t .index) k ≡ some entry
+  pub known : entryFor (t .index) k ≡ some entry
   pub place : Place
   pub current : decode (entry .current) ≡ done (some place)
   pub cell : place .cell ≡ cellOf (s .x) (s .y)

@@ -5,8 +5,8 @@ ghost use lib.ListN.{length};
 ghost use Rattle.base.specs.Lent.{old, new};
 ghost use Rattle.base.specs.Promise.{Changes};
 ghost use Rattle.words.specs.Part.{part};
-ghost use Rattle.index.specs.Search.{after, search, find, searchSays, known};
-ghost use Rattle.index.specs.Index.{indexAt, newEntry, putEntry, insert};
+ghost use Rattle.index.specs.Search.{after, search, searchTells, searchSays, known};
+ghost use Rattle.index.specs.Index.{indexAt, newEntry, putEntry, enter};
 ghost use Rattle.words.specs.Map.{INDEX-SIZE};
 use crate::hash::start_of;
 use base::Change;
@@ -35,7 +35,7 @@ fn next_entry(i: usize) -> usize
 // Goes from entry to entry until the object or an empty one.
 pub fn find_object(oids: &[u32], oid: u32) -> Search
     requires { ⌜ length (now oids) ≡ 512 ⌝ }
-    ensures { λ r. ⌜ searchSays r ≡ find (old oids) oid ⌝ }
+    ensures { λ r. ⌜ searchSays r ≡ searchTells (old oids) oid ⌝ }
 {
     let s = start_of(oid) as usize;
     let mut i = s;
@@ -68,7 +68,7 @@ fn put_new(index: &mut [u32], at: usize, oid: u32)
 // Enters an object where the search for it ended, without places and with its lock free; leaves a known one as it is.
 pub fn enter_at(index: &mut [u32], s: Search, oid: u32) -> Change
     requires { ⌜ (length (now index) ≡ INDEX-SIZE) × (s ≡ search (part 0 512 (now index)) oid) ⌝ }
-    ensures { λ r. ⌜ Changes (indexAt (old index)) (λ d. insert d oid) r (indexAt (new index)) ⌝ }
+    ensures { λ r. ⌜ Changes (indexAt (old index)) (λ d. enter d oid) r (indexAt (new index)) ⌝ }
 {
     let Search::Empty(i) = s else {
         return Change::Done;
@@ -83,7 +83,7 @@ pub fn enter_at(index: &mut [u32], s: Search, oid: u32) -> Change
 // The same, after a search.
 pub fn enter_object(index: &mut [u32], oid: u32) -> Change
     requires { ⌜ length (now index) ≡ INDEX-SIZE ⌝ }
-    ensures { λ r. ⌜ Changes (indexAt (old index)) (λ d. insert d oid) r (indexAt (new index)) ⌝ }
+    ensures { λ r. ⌜ Changes (indexAt (old index)) (λ d. enter d oid) r (indexAt (new index)) ⌝ }
 {
     let s = find_object(&index[0..INDEX_LOCKS], oid);
     enter_at(index, s, oid)

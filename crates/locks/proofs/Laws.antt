@@ -8,7 +8,7 @@ use borrow.Author.Tests.{ltb-true, eqb-true, lt-ltb, le-leb, ne-eqb}
 use Rattle.base.specs.Outcome.{done, blocked, need, await, andThen}
 use Rattle.base.proofs.Outcome.{need-done, await-done, then-done, then-true, need-true, done-one}
 use Rattle.base.specs.Table.{at}
-use Rattle.locks.specs.Lock.{look, take, release}
+use Rattle.locks.specs.Lock.{look, takeLock, release}
 
 module _ (l : List ℕ) (i : ℕ) where
   -- a lock that was found free is in range and 0, and nothing changed
@@ -32,19 +32,19 @@ module _ (l : List ℕ) (i : ℕ) where
 
   module _ (o : ℕ) where
     -- a lock that was taken was free, and has its owner now
-    pub take-done : (l′ : List ℕ) → take l i o ≡ done l′ → (i < length l) × (at l i ≡ 0) × (l′ ≡ set l i o)
-    unfolding take
+    pub take-done : (l′ : List ℕ) → takeLock l i o ≡ done l′ → (i < length l) × (at l i ≡ 0) × (l′ ≡ set l i o)
+    unfolding takeLock
     take-done l′ e =
         let t = then-done _ _ e in
         let f = look-done (t .0) (t .1) in
         (f .0, f .1, sym (done-one (t .2)) ∙ ap (λ (m : List ℕ). set m i o) (f .2))
 
-    pub take-free : i < length l → at l i ≡ 0 → take l i o ≡ done (set l i o)
-    unfolding take
+    pub take-free : i < length l → at l i ≡ 0 → takeLock l i o ≡ done (set l i o)
+    unfolding takeLock
     take-free h e = then-true _ _ (look-free h e)
 
-    pub take-held : i < length l → at l i ≤ 8 → at l i ≢ 0 → take l i o ≡ blocked
-    unfolding take andThen
+    pub take-held : i < length l → at l i ≤ 8 → at l i ≢ 0 → takeLock l i o ≡ blocked
+    unfolding takeLock andThen
     take-held h k n = rw (look-held h k n)
 
   -- freeing

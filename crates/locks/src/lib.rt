@@ -4,7 +4,7 @@ ghost use mathlib.Core.Path.{_≡_};
 ghost use Rattle.base.specs.Lent.{old, new};
 ghost use Rattle.base.specs.Outcome.{tells, ended, nothing};
 ghost use Rattle.base.specs.Answer.{attemptSays, changeSays};
-ghost use Rattle.locks.specs.Lock.{look, take, release};
+ghost use Rattle.locks.specs.Lock.{look, takeLock, release};
 use base::Attempt;
 use base::Change;
 
@@ -27,7 +27,7 @@ pub fn look_lock(locks: &[u32], at: usize) -> Attempt
 
 // Takes a lock that is free.
 pub fn take_lock(locks: &mut [u32], at: usize, owner: u32) -> Attempt
-    ensures { λ r. ⌜ ended nothing (λ l. l) (old locks) (take (old locks) at owner) ≡ (attemptSays r, new locks) ⌝ }
+    ensures { λ r. ⌜ ended nothing (λ l. l) (old locks) (takeLock (old locks) at owner) ≡ (attemptSays r, new locks) ⌝ }
 {
     if at >= locks.len() {
         return Attempt::Corrupt;

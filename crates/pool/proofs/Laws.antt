@@ -16,7 +16,7 @@ use Rattle.base.specs.Outcome.{done}
 use Rattle.base.proofs.Outcome.{need-done, need-true, done-one}
 use Rattle.base.specs.Table.{at}
 use Rattle.base.proofs.Table.{at-or}
-use Rattle.pool.specs.Pool.{Took, height, withHeight, members, Has, size, take, give, fresh, refill}
+use Rattle.pool.specs.Pool.{Took, height, withHeight, members, Has, size, takeTop, give, fresh, refill}
 
 -- what a `done` says of the tests on the way
 record Taking (pool : List ℕ) (t : Took) : Type 0 where
@@ -26,8 +26,8 @@ record Taking (pool : List ℕ) (t : Took) : Type 0 where
   pub below : at pool (height pool - 1) < 512
   pub is : (record { bucket = at pool (height pool - 1); pool = withHeight pool (height pool - 1) }) ≡ t
 
-taking : (pool : List ℕ) (t : Took) → take pool ≡ done t → Taking pool t
-unfolding take
+taking : (pool : List ℕ) (t : Took) → takeTop pool ≡ done t → Taking pool t
+unfolding takeTop
 taking pool t e =
     let n₁ = need-done _ _ e in
     let n₂ = need-done _ _ (n₁ .1) in
@@ -65,7 +65,7 @@ unfolding members withHeight
 members-set pool n e h = rw (height-set pool n e) (take-set-le n pool 512 n h)
 
 -- THE EQUATION of taking: the bucket handed out was the last member
-take-members : (pool : List ℕ) (t : Took) → take pool ≡ done t → members pool ≡ members (t .pool) ++ t .bucket ∷ []
+take-members : (pool : List ℕ) (t : Took) → takeTop pool ≡ done t → members pool ≡ members (t .pool) ++ t .bucket ∷ []
 unfolding members
 take-members pool t e =
     let T = taking pool t e in
@@ -89,7 +89,7 @@ pub record Sound (pool : List ℕ) : Type 0 where
   pub once : Once (members pool)
   pub below : (b : ℕ) → Has pool b → b < 512
 
-module _ (pool : List ℕ) (t : Took) (e : take pool ≡ done t) where
+module _ (pool : List ℕ) (t : Took) (e : takeTop pool ≡ done t) where
   -- what is handed out was in the pool
   pub take-had : Has pool (t .bucket)
   unfolding Has
@@ -207,8 +207,8 @@ unfolding Has size
 has-some pool b i = in-length (members pool) i
 
 -- a pool that has a bucket hands one out
-pub take-some : (pool : List ℕ) → Sound pool → 0 < size pool → (t : Took) × (take pool ≡ done t)
-unfolding take
+pub take-some : (pool : List ℕ) → Sound pool → 0 < size pool → (t : Took) × (takeTop pool ≡ done t)
+unfolding takeTop
 take-some pool S h =
     let z : size pool ≡ height pool = size-height pool S in
     let some : height pool ≢ 0 = λ q. omega arith in

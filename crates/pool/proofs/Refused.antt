@@ -10,7 +10,7 @@ use borrow.Author.Tests.{eq-eqb, lt-ltb, le-ltb, leb-true, leb-false}
 use Rattle.base.specs.Outcome.{corrupt, done, need}
 use Rattle.base.specs.Table.{at}
 use Rattle.base.proofs.Table.{not-ltb, not-leb}
-use Rattle.pool.specs.Pool.{Took, height, withHeight, take, give, takeRefused, giveRefused}
+use Rattle.pool.specs.Pool.{Took, height, withHeight, takeTop, give, takeRefused, giveRefused}
 
 module _ {A : Type 0} (k : A) where
   -- three tests on the way, one of which fails
@@ -36,18 +36,18 @@ popped pool = record { bucket = at pool (height pool - 1); pool = withHeight poo
 module _ (pool : List ℕ) (l : length pool ≡ 513) where
   -- the three tests of `take`, turned round
   take-is :
-      take pool
+      takeTop pool
       ≡ need (not (eqb (height pool) 0)) (need (not (ltb 512 (height pool))) (need (not (leb 512 (at pool (height pool - 1)))) (done (popped pool))))
-  unfolding take popped need
+  unfolding takeTop popped need
   take-is = rw (eq-eqb (length pool) 513 l, not-ltb 512 (height pool), not-leb 512 (at pool (height pool - 1)))
 
   -- A bucket is not handed out where the pool is dry, its height over 512, or its top no bucket.
-  pub take-refused : takeRefused pool ≡ true → take pool ≡ corrupt
+  pub take-refused : takeRefused pool ≡ true → takeTop pool ≡ corrupt
   unfolding takeRefused
   take-refused e = rw take-is (fails (popped pool) (eqb (height pool) 0) (ltb 512 (height pool)) (leb 512 (at pool (height pool - 1))) e)
 
   -- Otherwise it is.
-  pub take-accepted : takeRefused pool ≡ false → (t : Took) × (take pool ≡ done t)
+  pub take-accepted : takeRefused pool ≡ false → (t : Took) × (takeTop pool ≡ done t)
   unfolding takeRefused
   take-accepted e = (popped pool, rw take-is (passes (popped pool) (eqb (height pool) 0) (ltb 512 (height pool)) (leb 512 (at pool (height pool - 1))) e))
 

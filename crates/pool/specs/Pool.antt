@@ -41,8 +41,8 @@ unfoldable pub size : List ℕ → ℕ
 size pool = length (members pool)
 
 -- the top of the stack; corrupt where the pool is dry or the height or the bucket out of range
-unfoldable pub take : List ℕ → Outcome Took
-take pool =
+unfoldable pub takeTop : List ℕ → Outcome Took
+takeTop pool =
     need (eqb (length pool) 513)
     (need (not (eqb (height pool) 0))
     (need (leb (height pool) 512)

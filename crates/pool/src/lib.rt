@@ -4,7 +4,7 @@ ghost use mathlib.Core.Path.{_≡_};
 ghost use Rattle.base.specs.Lent.{old, new};
 ghost use Rattle.base.specs.Outcome.{ended, one, nothing};
 ghost use Rattle.base.specs.Answer.{changeSays};
-ghost use Rattle.pool.specs.Pool.{take, give, refill, Took, takenSays};
+ghost use Rattle.pool.specs.Pool.{takeTop, give, refill, Took, takenSays};
 use base::BUCKET_COUNT;
 use base::Change;
 
@@ -21,7 +21,7 @@ pub enum Taken {
 
 // Hands out the bucket on top of the stack.
 pub fn take_bucket(pool: &mut [u32]) -> Taken
-    ensures { λ r. ⌜ ended (λ (t : Took). one (t .bucket)) (λ (t : Took). t .pool) (old pool) (take (old pool)) ≡ (takenSays r, new pool) ⌝ }
+    ensures { λ r. ⌜ ended (λ (t : Took). one (t .bucket)) (λ (t : Took). t .pool) (old pool) (takeTop (old pool)) ≡ (takenSays r, new pool) ⌝ }
 {
     if pool.len() != ENTRIES {
         return Taken::Corrupt;

@@ -20,7 +20,7 @@ use Rattle.stage.specs.declared.Stage.{Stage}
 use Rattle.stage.specs.declared.Stage.the-variants.{Idle, TakeObject, LockCell, LookLast, CopyLast, LowerCount, ReturnBucket, ErasePlace, ChooseCell, MakeRoom, WriteTuple, RaiseCount, SwitchPlace, DeleteOld, ReleaseObject}
 use Rattle.grid.specs.Run.{Grid}
 use Rattle.machine.specs.Machine.{Entry}
-use Rattle.base.specs.Sums.{sum, bit, count}
+use Rattle.base.specs.Sums.{sumBelow, bit, countBelow}
 use Rattle.machine.proofs.Pigeon.{by-pair}
 use Rattle.tuples.proofs.Inv.{Pos, Kind, kCur, kPrev, kNew, kDup, sel, mk, pl, Top, Moved, movedCur, movedPrev, Lowering, Erasing, Ok, ownHeld, movHeld, filling, mv, cl, bk, goal}
 use Rattle.tuples.proofs.Facts.{tall-of, at-stage}
@@ -396,8 +396,8 @@ out-kinds (inChain c h) = refl
 out-kinds (unlinked l c h) = refl
 
 outs : (n : ℕ) (f : ℕ → Owner)
-    → count n (λ b. out (f b)) ≡ count n (λ b. isLinked (f b)) + count n (λ b. isAway (f b))
-unfolding sum
+    → countBelow n (λ b. out (f b)) ≡ countBelow n (λ b. isLinked (f b)) + countBelow n (λ b. isAway (f b))
+unfolding sumBelow
 outs zero f = refl
 outs (suc n) f = omega (arith, outs n f, out-kinds (f n))
 

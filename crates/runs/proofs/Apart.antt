@@ -26,7 +26,7 @@ use Rattle.cells.proofs.Walked.{chain-walked}
 use Rattle.layout.specs.Place.{onGrid, cellOf}
 use Rattle.layout.specs.declared.place.Place.{Place}
 use Rattle.layout.proofs.Places.{on-grid-from, cell-below}
-use Rattle.pool.specs.Pool.{Took, take, Has}
+use Rattle.pool.specs.Pool.{Took, takeTop, Has}
 use Rattle.pool.proofs.Laws.{take-had, take-some}
 use Rattle.readers.specs.declared.Standing.{Standing}
 use Rattle.query.specs.declared.Scan.the-variants.{Read}
@@ -175,10 +175,10 @@ module _ (g : Grid) (G : Good g) where
 abbrev withFirstOf : Chains → ℕ → ℕ → List ℕ → Chains
 withFirstOf d c b pool = chainsOf (set (d .first) c b) (set (d .count) b 0) (set (d .next) b (at (d .first) c)) pool
 
-pushed : (d : Chains) (c : ℕ) (w : Took) → c < 256 → take (d .pool) ≡ done w
+pushed : (d : Chains) (c : ℕ) (w : Took) → c < 256 → takeTop (d .pool) ≡ done w
     → push d c ≡ done (withFirstOf d c (w .bucket) (w .pool))
 unfolding push
-pushed d c w c< e = need-true _ _ (lt-ltb c 256 c<) ∙ then-true (take (d .pool)) _ e
+pushed d c w c< e = need-true _ _ (lt-ltb c 256 c<) ∙ then-true (takeTop (d .pool)) _ e
 
 -- the three ways of making room in cell c, whose first bucket is f
 module _ (d : Chains) (c f : ℕ) (is : at (d .first) c ≡ f) (c< : c < 256) where

@@ -24,7 +24,7 @@ use Rattle.updates.specs.Update.{idleUpdater, idleUpdaters}
 use Rattle.queries.specs.Query.{idleQuery, idleQueries}
 use Rattle.grid.specs.Run.{emptyGrid}
 use Rattle.machine.specs.Machine.{St}
-use Rattle.base.specs.Sums.{sum, bit}
+use Rattle.base.specs.Sums.{sumBelow, bit}
 use Rattle.cells.proofs.Chains.{inPool, Links, Full, Loose}
 use Rattle.cells.proofs.Empty.{links-empty}
 use Rattle.tuples.proofs.Inv.{Bounded, Inv, Ok, celHeld, ownHeld, movHeld, stands-in}
@@ -99,7 +99,7 @@ whole : (b : ℕ) → (store .Has fresh b → b < 512) × (b < 512 → store .Ha
 whole b = (λ h. fresh-sound .below b (store-has fresh b h), λ h. has-store fresh b (fresh-has b h))
 
 blank-inv : (d : St) → Blank d → d .pool ≡ fresh → Inv store nothing d
-unfolding Ok celHeld ownHeld movHeld stands-in sum bit
+unfolding Ok celHeld ownHeld movHeld stands-in sumBelow bit
 blank-inv d B pool =
     record {
       links = B .links;

@@ -11,7 +11,7 @@ use lib.Dec.{T}
 use Rattle.base.specs.Lists.{In, in-none, in-or, in-one}
 use Rattle.base.specs.Table.{at}
 use Rattle.base.proofs.Table.{clash}
-use Rattle.index.specs.Index.{Entry, lookup}
+use Rattle.index.specs.Index.{Entry, entryFor}
 use Rattle.stage.specs.declared.Stage.{Stage}
 use Rattle.stage.specs.declared.Stage.the-variants.{Idle, TakeObject, LockCell, LookLast, CopyLast, LowerCount, ReturnBucket, ErasePlace, ChooseCell, MakeRoom, WriteTuple, RaiseCount, SwitchPlace, DeleteOld, ReleaseObject}
 use Rattle.grid.specs.Run.{Grid}
@@ -91,7 +91,7 @@ module _ (g : Grid) (G : Good g) where
   unfolding view
   has-object k l h =
       let a = updater g l in
-      lock-some (lookup (g .tables .index) k) l
+      lock-some (entryFor (g .tables .index) k) l
       (⊎-elim
       (λ (o : T (ownHeld (a .stage)) × (k ≡ a .oid)). rw (o .1) (G .inv .objs .own l (h .0) (o .0)))
       (λ (o : T (movHeld (a .stage)) × (k ≡ mv (a .oid) (a .stage))). rw (o .1) (G .inv .objs .mov l (h .0) (o .0)))

@@ -9,7 +9,7 @@ use Rattle.base.specs.Table.{at}
 use Rattle.layout.specs.Place.{onGrid, cellOf}
 use Rattle.layout.proofs.Places.{on-grid-from}
 use Rattle.slots.specs.Tuple.{Tuple}
-use Rattle.index.specs.Index.{Index, entryAt, lookup}
+use Rattle.index.specs.Index.{Index, entryAt, entryFor}
 use Rattle.index.proofs.Map.{found-lookup}
 use Rattle.grid.specs.Run.{Grid}
 use Rattle.runs.specs.Quiet.{tupleOf}
@@ -24,7 +24,7 @@ module _ (g : Grid) (G : Good g) where
   d = g .tables .index
 
   -- what the search finds is the entry
-  entry-of : (i : ℕ) → Entered (g .tables) i → lookup d (at (d .oid) i) ≡ some (entryAt d i)
+  entry-of : (i : ℕ) → Entered (g .tables) i → entryFor d (at (d .oid) i) ≡ some (entryAt d i)
   entry-of i n = found-lookup d (at (d .oid) i) (G .shape .index .reach i (n .0) (n .1))
 
   pub reached : Reached (g .tables)

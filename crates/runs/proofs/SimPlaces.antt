@@ -27,7 +27,7 @@ use Rattle.slots.specs.Stamp.{stampOf}
 use Rattle.slots.specs.Tuple.{Tuples, Tuple, needSlot, signOf, sign}
 use Rattle.index.specs.Search.{search as find}
 use Rattle.index.specs.Places.{putPlace, erasePlace, shift}
-use Rattle.index.specs.Index.{Index, indexOf, Entry, lookup}
+use Rattle.index.specs.Index.{Index, indexOf, Entry, entryFor}
 use Rattle.index.specs.declared.search.Search.the-variants.{Found}
 use Rattle.index.proofs.Map.{Sound, change, sound-change, found-lookup}
 use Rattle.index.proofs.Probe.{found-below}
@@ -72,13 +72,13 @@ shift-done current previous i p n c< p< h e = rw (lt-ltb i (length current) c<, 
 -- ---- what the machine sees of an index
 
 abbrev knownsOf : Index → ℕ → Bool
-knownsOf x = λ k. knownF (lookup x k)
+knownsOf x = λ k. knownF (entryFor x k)
 
 abbrev locksOf : Index → ℕ → ℕ
-locksOf x = λ k. lockF (lookup x k)
+locksOf x = λ k. lockF (entryFor x k)
 
 abbrev placesOf : Index → ℕ → Places
-placesOf x = λ k. placesF (lookup x k)
+placesOf x = λ k. placesF (entryFor x k)
 
 -- ---- an index on its way from d: the same objects, found at the same entries, with locks L and places E
 

@@ -9,7 +9,7 @@ use Rattle.base.specs.Table.{at}
 use Rattle.layout.specs.Place.{cellOf}
 use Rattle.slots.specs.Tuple.{tupleAt, slotAt}
 use Rattle.index.specs.Search.{known}
-use Rattle.index.specs.Index.{Entry, lookup}
+use Rattle.index.specs.Index.{Entry, entryFor}
 use Rattle.stage.specs.declared.Stage.{Stage}
 use Rattle.grid.specs.Run.{Grid}
 use Rattle.stage.specs.StageTable.{row, cellOr, bucketBy}
@@ -45,7 +45,7 @@ pub data Reason (g : Grid) (b k : ℕ) : Bool → Type 0 where
 pub record TwoEach (g : Grid) : Type 0 where
   pub object : ℕ → ℕ
   pub forFormer : ℕ → Bool
-  pub isKnown : (b : ℕ) → InUse g b → (e : Entry) × (lookup (g .tables .index) (object b) ≡ some e)
+  pub isKnown : (b : ℕ) → InUse g b → (e : Entry) × (entryFor (g .tables .index) (object b) ≡ some e)
   pub reason : (b : ℕ) → InUse g b → Reason g b (object b) (forFormer b)
   pub once : (b b′ : ℕ) → InUse g b → InUse g b′ → object b ≡ object b′ → forFormer b ≡ forFormer b′ → b ≡ b′
   pub few : chained (g .tables) + awaiting (g .updaters) ≤ 2 * known (g .tables .index .oid)

@@ -6,13 +6,13 @@ use mathlib.Core.Option.{some}
 use Prim.Native.Nat.{ℕ, suc, _<_}
 use Rattle.base.specs.Lists.{In}
 use Rattle.base.specs.Table.{at}
-use Rattle.index.specs.Index.{Entry, lookup}
+use Rattle.index.specs.Index.{Entry, entryFor}
 use Rattle.grid.specs.Run.{Grid}
 use Rattle.runs.specs.Quiet.{updater, HoldsCell, heldObjects}
 
 -- object k is known, and its lock has the number of lane l
 abbrev pub Locked : Grid → ℕ → ℕ → Type 0
-Locked g k l = (e : Entry) × (lookup (g .tables .index) k ≡ some e) × (e .lock ≡ suc l)
+Locked g k l = (e : Entry) × (entryFor (g .tables .index) k ≡ some e) × (e .lock ≡ suc l)
 
 -- the update of lane l stands at a stage that holds object k
 abbrev pub HoldsObject : Grid → ℕ → ℕ → Type 0

@@ -13,7 +13,7 @@ use Rattle.cells.specs.Walk.{chainOf}
 use Rattle.layout.specs.Place.{onGrid, cellOf, decode}
 use Rattle.layout.specs.declared.place.Place.{Place}
 use Rattle.index.specs.Search.{search}
-use Rattle.index.specs.Index.{entryAt, lookup}
+use Rattle.index.specs.Index.{entryAt, entryFor}
 use Rattle.index.specs.declared.search.Search.the-variants.{Found}
 use Rattle.tables.specs.Tables.{Tables}
 use Rattle.runs.specs.Quiet.{tupleOf}
@@ -26,7 +26,7 @@ Entered t i = (i < 512) × (at (t .index .oid) i ≢ 0)
 -- up is said of all entries; and its two numbers are read as places or as none.
 pub record Reached (t : Tables) : Type 0 where
   pub found : (i : ℕ) → Entered t i → search (t .index .oid) (at (t .index .oid) i) ≡ Found i
-  pub entry : (i : ℕ) → Entered t i → lookup (t .index) (at (t .index .oid) i) ≡ some (entryAt (t .index) i)
+  pub entry : (i : ℕ) → Entered t i → entryFor (t .index) (at (t .index .oid) i) ≡ some (entryAt (t .index) i)
   pub current : (i : ℕ) → Entered t i → (p : Option Place) × (decode (at (t .index .current) i) ≡ done p)
   pub previous : (i : ℕ) → Entered t i → (p : Option Place) × (decode (at (t .index .previous) i) ≡ done p)
 

@@ -1,10 +1,16 @@
 -- How a step of an update ends, in document 01's numbers, and the words that the stages are written in.
 use mathlib.Core.Bool.{Bool, true, false}
+use mathlib.Core.List.{List}
 use mathlib.Core.Option.{none, some}
 use Prim.Native.Nat.{ℕ, _+_}
 use lib.Dec.{ltb}
-use Rattle.base.specs.Outcome.{Outcome, corrupt, blocked, done, need}
+use Rattle.base.specs.Outcome.{Outcome, corrupt, blocked, done, need, andThen}
 use Rattle.base.specs.Step.{Said, said, Step, stepOf}
+use Rattle.base.specs.declared.Attempt.{Attempt}
+use Rattle.base.specs.declared.Attempt.the-variants.{Corrupt as AttemptCorrupt, Blocked as AttemptBlocked, Done as AttemptDone}
+use Rattle.base.specs.declared.Change.{Change}
+use Rattle.base.specs.declared.Change.the-variants.{Corrupt as ChangeCorrupt, Done as ChangeDone}
+use Rattle.locks.specs.Lock.{takeLock}
 use Rattle.index.specs.declared.search.Search.{Search}
 use Rattle.index.specs.declared.search.Search.the-variants.{Found, Empty}
 use Rattle.stage.specs.declared.Stage.{Stage}
@@ -19,6 +25,17 @@ turnSays Blocked = said 20 none
 turnSays (Advanced s) = said 0 (some s)
 turnSays Restarted = said 21 (some TakeObject)
 turnSays Finished = said 22 (some Idle)
+
+-- the end of a step that makes one change and goes on to a stage: as the change ended
+abbrev pub turnAfter : Change → Stage → Turn
+turnAfter ChangeCorrupt s = Corrupt
+turnAfter ChangeDone s = Advanced s
+
+-- the same of a change that may have to wait
+abbrev pub turnAttempted : Attempt → Stage → Turn
+turnAttempted AttemptCorrupt s = Corrupt
+turnAttempted AttemptBlocked s = Blocked
+turnAttempted AttemptDone s = Advanced s
 
 -- what a stage comes to, unless it is refused or blocked: its number, the next stage, and the tables
 abbrev pub Move : Type 0 → Type 0
@@ -46,6 +63,10 @@ unfoldable pub attempt : {A B : Type 0} → Outcome A → Outcome B → (A → O
 attempt corrupt b k = corrupt
 attempt blocked b k = b
 attempt (done a) b k = k a
+
+-- Take a lock and go on to a stage; blocked if it is taken.
+unfoldable pub hold : List ℕ → ℕ → ℕ → Stage → Outcome (Move (List ℕ))
+hold locks i owner next = andThen (takeLock locks i owner) (λ l. advance next l)
 
 -- Draw a stamp: the clock with one added, which must stay a stamp's magnitude.
 unfoldable pub draw : {A : Type 0} → ℕ → (ℕ → Outcome A) → Outcome A

@@ -1,5 +1,13 @@
 // An update in progress (document 01: a report lane): its object, the place reported, and its stage.
+// And the ends that several stages share.
+ghost use mathlib.Core.Path.{_≡_};
+ghost use Rattle.base.specs.Lent.{new, old};
+ghost use Rattle.stage.specs.Promise.{Turns};
+ghost use Rattle.stage.specs.Turn.{hold, turnAfter, turnAttempted};
+use base::Attempt;
+use base::Change;
 use layout::place::Place;
+use locks::take_lock;
 
 // What an update does next, with the data of that stage (document 01: the stages of a report).
 // The place of stages 2 to 7 is the one being erased; the object with it is the one whose tuple moves there.
@@ -36,4 +44,33 @@ pub enum Turn {
     Advanced(Stage),
     Restarted,
     Finished,
+}
+
+// The end of a step that made a change, and goes on to a stage if it is done.
+pub fn turn_after(done: Change, next: Stage) -> Turn
+    ensures { λ r. ⌜ r ≡ turnAfter done next ⌝ }
+{
+    match done {
+        Change::Corrupt => Turn::Corrupt,
+        Change::Done => Turn::Advanced(next),
+    }
+}
+
+// The same of a change that may have to wait.
+pub fn turn_attempted(done: Attempt, next: Stage) -> Turn
+    ensures { λ r. ⌜ r ≡ turnAttempted done next ⌝ }
+{
+    match done {
+        Attempt::Corrupt => Turn::Corrupt,
+        Attempt::Blocked => Turn::Blocked,
+        Attempt::Done => Turn::Advanced(next),
+    }
+}
+
+// Takes a lock and goes on to a stage. Blocked if it is taken.
+pub fn hold_lock(locks: &mut [u32], at: usize, owner: u32, next: Stage) -> Turn
+    ensures { λ r. ⌜ Turns (λ l. hold l at owner next) r (old locks) (new locks) ⌝ }
+{
+    let taken = take_lock(locks, at, owner);
+    turn_attempted(taken, next)
 }

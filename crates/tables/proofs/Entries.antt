@@ -10,7 +10,7 @@ use Rattle.words.specs.Part.{part}
 use Rattle.words.specs.Words.{indexIn}
 use Rattle.words.proofs.Parts.{part-length, part-part, store-set}
 use Rattle.index.specs.Index.{indexAt}
-use Rattle.index.specs.Search.{search as sought, searchSays, find}
+use Rattle.index.specs.Search.{search as sought, searchSays, searchTells}
 use Rattle.index.specs.declared.search.Search.{Search}
 use Rattle.index.proofs.Probe.{find-search}
 use Rattle.index.proofs.Room.{lock-set, current-set, previous-set}
@@ -68,7 +68,7 @@ module _ (w : List ℕ) (ts : List ℤ) (w# : length w ≡ WORDS) where
   oids-lent = part-part w INDEX INDEX-SIZE 0 512 (omega arith) (omega arith)
 
   -- the search looks at them
-  pub seeks : (k : ℕ) (r : Search) → searchSays r ≡ find (part INDEX 512 w) k → sought (grid w ts .index .oid) k ≡ r
+  pub seeks : (k : ℕ) (r : Search) → searchSays r ≡ searchTells (part INDEX 512 w) k → sought (grid w ts .index .oid) k ≡ r
   seeks k r e = ap (λ (l : List ℕ). sought l k) oids-lent ∙ sym (find-search (part INDEX 512 w) k r e)
 
   -- the current places as they are lent

@@ -12,7 +12,7 @@ use lib.IntN.{natAbs}
 use Rattle.base.proofs.Table.{clash}
 use Rattle.machine.specs.Store.{StoreOps, Store}
 use Rattle.machine.specs.Marks.{stands, stood}
-use Rattle.base.specs.Sums.{sum}
+use Rattle.base.specs.Sums.{sumBelow}
 use Rattle.slots.specs.Tuple.{Tuple}
 use Rattle.stage.specs.declared.Stage.the-variants.{Idle}
 use Rattle.machine.specs.Machine.{St, withTup, withClock}
@@ -37,8 +37,8 @@ pub record Retimed (clock : ℕ) (tup tup′ : ℕ → ℕ → Tuple) : Type 0 w
   pub young : (b i : ℕ) → T (stood (tup′ b i .time)) → natAbs (tup′ b i .time) ≤ clock
 
 module _ {O : StoreOps} {S : Store O} {g : Ghost} {d : St} (I : Inv S g d) (Q : Resting d) where
-  idle-draws : sum 8 (λ l. draws (d .lanes l .stage)) ≡ 0
-  unfolding sum draws
+  idle-draws : sumBelow 8 (λ l. draws (d .lanes l .stage)) ≡ 0
+  unfolding sumBelow draws
   idle-draws =
       rw (
         Q .lanes 0 (omega arith),

@@ -23,7 +23,7 @@ use Rattle.stage.specs.declared.Updater.{Updater}
 use Rattle.machine.specs.Machine.{Scanner, St, put, to}
 use Rattle.cells.proofs.Chains.{Owner, inChain, unlinked}
 use Rattle.tuples.proofs.Inv.{Pos, Kind, kCur, kPrev, kNew, sel, Slots, Fit, Fits, Top, topOf, Ok, celHeld, mv, cl, goal, bk, filling, Ghost, OkAt, Lanes, CellLocks, ObjLocks, Filled, Back, draws, Ticks, Young, Placed, Written, Reading}
-use Rattle.base.specs.Sums.{sum}
+use Rattle.base.specs.Sums.{sumBelow}
 use Rattle.tuples.proofs.Local.{Local, others}
 use Rattle.tuples.proofs.Slots.{put-same, put-else, slot-or}
 
@@ -145,14 +145,14 @@ pub placed-less : {own own′ : ℕ → Owner} {count count′ : ℕ → ℕ} {t
 placed-less f P = record { inside = λ b c h i o l. let u = f b c h i o l in P .inside b c h i (u .0) (u .1) }
 
 -- ---- the clock
-pub sum-one : (n l : ℕ) → l < n → (f f′ : ℕ → ℕ) → ((i : ℕ) → i ≢ l → f′ i ≡ f i) → sum n f′ + f l ≡ sum n f + f′ l
-unfolding sum
+pub sum-one : (n l : ℕ) → l < n → (f f′ : ℕ → ℕ) → ((i : ℕ) → i ≢ l → f′ i ≡ f i) → sumBelow n f′ + f l ≡ sumBelow n f + f′ l
+unfolding sumBelow
 sum-one zero l l< f f′ e = absurd (omega arith)
 sum-one (suc n) l l< f f′ e = at-or l n
-    (λ q. let w : sum n f′ ≡ sum n f = sum-same n n f f′ (λ i i<. e i (omega arith)) (omega arith) in rw q (omega arith))
+    (λ q. let w : sumBelow n f′ ≡ sumBelow n f = sum-same n n f f′ (λ i i<. e i (omega arith)) (omega arith) in rw q (omega arith))
     (λ q. let w = sum-one n l (omega arith) f f′ e in let v = e n (λ z. q (sym z)) in omega arith)
   where
-    sum-same : (m n : ℕ) (f f′ : ℕ → ℕ) → ((i : ℕ) → i < n → f′ i ≡ f i) → m ≤ n → sum m f′ ≡ sum m f
+    sum-same : (m n : ℕ) (f f′ : ℕ → ℕ) → ((i : ℕ) → i < n → f′ i ≡ f i) → m ≤ n → sumBelow m f′ ≡ sumBelow m f
     sum-same zero n f f′ e h = refl
     sum-same (suc m) n f f′ e h = let w = sum-same m n f f′ e (omega arith) in let v = e m (omega arith) in omega arith
 

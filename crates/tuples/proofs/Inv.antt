@@ -22,7 +22,7 @@ use lib.Dec.{T, eqb}
 use lib.IntN.{natAbs}
 use Rattle.machine.specs.Store.{StoreOps, Store}
 use Rattle.machine.specs.Marks.{stands, stood}
-use Rattle.base.specs.Sums.{sum, bit}
+use Rattle.base.specs.Sums.{sumBelow, bit}
 use Rattle.layout.specs.declared.place.Place.{Place}
 use Rattle.layout.specs.Place.{cellOf}
 use Rattle.slots.specs.Tuple.{Tuple}
@@ -233,7 +233,7 @@ pub record Standing (own : ℕ → Owner) (tup : ℕ → ℕ → Tuple) (b c lef
   pub here : (i : ℕ) → i < left → (cellOf (tup b i .x) (tup b i .y) ≡ c) × (tup b i .x < 16384) × (tup b i .y < 16384)
 
 pub record Reading (own : ℕ → Owner) (tup : ℕ → ℕ → Tuple) (readers : ℕ → ℕ) (queries : ℕ → Scanner) : Type 0 where
-  pub exact : (b : ℕ) → readers b ≡ sum 4 (λ q. bit (stands-in (queries q .bucket) b))
+  pub exact : (b : ℕ) → readers b ≡ sumBelow 4 (λ q. bit (stands-in (queries q .bucket) b))
   pub standing : (q b : ℕ) → q < 4 → queries q .bucket ≡ some b → Standing own tup b (queries q .cell) (queries q .left)
 
 -- Every slot, live or not: its time is one that a stamp may have, or 0; a flagged one was drawn, so it is not above the clock (a positive one may be: a repair keeps the stamps that it finds); its object is known.
@@ -258,7 +258,7 @@ pub record Written (tup : ℕ → ℕ → Tuple) (lanes : ℕ → Updater) : Typ
 
 -- the clock has room for every draw to come
 pub record Ticks (clock : ℕ) (lanes : ℕ → Updater) : Type 0 where
-  pub left : clock + sum 8 (λ l. draws (lanes l .stage)) ≤ 2147483647
+  pub left : clock + sumBelow 8 (λ l. draws (lanes l .stage)) ≤ 2147483647
 
 -- the objects of a class, numbered below 256
 pub record Numbered (C : ℕ → Type 0) : Type 0 where

@@ -28,7 +28,7 @@ use Rattle.tuples.proofs.Local.{Local}
 use Rattle.tuples.proofs.Locks.{still, cells-step, objs-step}
 use Rattle.tuples.proofs.Common.{oks, writes}
 use Rattle.tuples.proofs.Facts.{cell-his, obj-his}
-use Rattle.base.specs.Sums.{sum, bit}
+use Rattle.base.specs.Sums.{sumBelow, bit}
 use Rattle.base.proofs.Sums.{bit-le, sum-le, sum-const}
 use Rattle.tuples.proofs.Stage4.{keeps4}
 use Rattle.tuples.proofs.Stage5.{keeps5}
@@ -72,7 +72,7 @@ draws-2 : (s : Stage) → draws s ≤ 2
 unfolding draws
 draws-2 s = stage-fits s .few
 
-pub draws-16 : (lanes : ℕ → Updater) → sum 8 (λ l. draws (lanes l .stage)) ≤ 16
+pub draws-16 : (lanes : ℕ → Updater) → sumBelow 8 (λ l. draws (lanes l .stage)) ≤ 16
 draws-16 lanes = omega (arith, sum-le 8 (λ l. draws (lanes l .stage)) (λ _. 2) (λ i _. draws-2 (lanes i .stage)), sum-const 8 2)
 
 -- one more known object, if it is new

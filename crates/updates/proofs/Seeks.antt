@@ -11,7 +11,7 @@ use Rattle.words.specs.Map.{INDEX, WORDS}
 use Rattle.words.specs.Part.{part}
 use Rattle.words.specs.Words.{indexIn, putIndex}
 use Rattle.index.specs.Search.{search as sought, known}
-use Rattle.index.specs.Index.{Index, indexAt, insert}
+use Rattle.index.specs.Index.{Index, indexAt, enter}
 use Rattle.index.specs.declared.search.Search.{Search}
 use Rattle.index.specs.declared.search.Search.the-variants.{Found, Empty}
 use Rattle.tables.specs.Tables.{Tables, withIndex}
@@ -37,11 +37,11 @@ module _ (w : List ℕ) (ts : List ℤ) (w# : length w ≡ WORDS) where
   unfolding hasRoom
   room-new s q e = rw (q, e) (ap (λ (l : List ℕ). ltb (known l) 256) (oids-lent w ts w#))
 
-  pub enters : (k : ℕ) (s : Told) (v : List ℕ) → length v ≡ 2048 → ended nothing (λ (d : Index). d) (indexAt (indexIn w)) (insert (indexAt (indexIn w)) k) ≡ (s, indexAt v)
-      → ended nothing (withIndex (grid w ts)) (grid w ts) (insert (grid w ts .index) k) ≡ (s, grid (putIndex w v) ts)
+  pub enters : (k : ℕ) (s : Told) (v : List ℕ) → length v ≡ 2048 → ended nothing (λ (d : Index). d) (indexAt (indexIn w)) (enter (indexAt (indexIn w)) k) ≡ (s, indexAt v)
+      → ended nothing (withIndex (grid w ts)) (grid w ts) (enter (grid w ts .index) k) ≡ (s, grid (putIndex w v) ts)
   unfolding grid
   enters k s v v# e =
-      let o = insert (indexAt (indexIn w)) k in
+      let o = enter (indexAt (indexIn w)) k in
       ap (λ (t : Tables). (tells nothing o, t)) (leaves-index (grid w ts) o)
       ∙ ap (λ (p : Told × Index). (p .0, withIndex (grid w ts) (p .1))) e
       ∙ ap (λ (t : Tables). (s, t)) (sym (put-index w ts w# v v#))

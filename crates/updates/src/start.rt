@@ -3,7 +3,7 @@ ghost use mathlib.Core.Path.{_≡_};
 ghost use mathlib.Core.List.{List};
 ghost use lib.IntN.{ℤ};
 ghost use lib.ListN.{length};
-ghost use Rattle.index.specs.Index.{insert};
+ghost use Rattle.index.specs.Index.{enter};
 ghost use Rattle.index.specs.Search.{search};
 ghost use Rattle.tables.specs.Grid.{grid};
 ghost use Rattle.tables.specs.Tables.{withIndex};
@@ -46,7 +46,7 @@ pub fn has_room(words: &[u32], s: Search) -> bool
 // Enters an object where its search ended; leaves a known one as it is.
 pub fn enter_there(words: &mut [u32], s: Search, oid: u32) -> Change
     requires { ⌜ (length (now words) ≡ WORDS) × ((ts : List ℤ) → search (grid (now words) ts .index .oid) oid ≡ s) ⌝ }
-    ensures { λ r. ⌜ OnWords words (ChangesIn withIndex (λ t. insert (t .index) oid) r) ⌝ }
+    ensures { λ r. ⌜ OnWords words (ChangesIn withIndex (λ t. enter (t .index) oid) r) ⌝ }
 {
     enter_at(&mut words[INDEX..HITS], s, oid)
 }

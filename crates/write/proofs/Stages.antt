@@ -2,21 +2,22 @@
 use mathlib.Core.Path.{_≡_, refl, sym, ap, _∙_}
 use mathlib.Core.Bool.{true, false}
 use mathlib.Core.Option.{none, some}
-use mathlib.Core.List.{List, []}
 use Prim.Native.Nat.{ℕ, _+_, _<_, _≤_}
 use borrow.Author.Tests.{le-ltb, lt-ltb}
-use Rattle.base.specs.Outcome.{says, Outcome, corrupt, done, need, andThen, nothing, ended}
-use Rattle.base.proofs.Outcome.{ended-corrupt, ended-done}
-use Rattle.base.specs.Step.{Said, said, turned}
+use Rattle.base.specs.Outcome.{corrupt, done, need, andThen, nothing, ended}
+use Rattle.base.specs.Answer.{changeSays}
+use Rattle.base.specs.declared.Change.{Change}
+use Rattle.base.specs.Step.{said, turned}
 use Rattle.layout.specs.Place.{onGrid, cellOf}
 use Rattle.layout.specs.declared.place.Place.{Place}
 use Rattle.tables.specs.Tables.{Tables, withTuples, withClock}
-use Rattle.cells.specs.Chain.{Chains, Writing}
+use Rattle.cells.specs.Chain.{Writing}
 use Rattle.cells.specs.On.{chainsIn, withChains, makeRoomOn, writeOn}
 use Rattle.base.proofs.Turns.{halts, moves}
-use Rattle.stage.specs.Turn.{draw}
-use Rattle.stage.specs.declared.Stage.{Stage}
+use Rattle.stage.specs.Turn.{turnSays, turnAfter, draw}
 use Rattle.stage.specs.declared.Stage.the-variants.{WriteTuple, RaiseCount}
+use Rattle.stage.specs.declared.Turn.{Turn}
+use Rattle.stage.proofs.After.{turns-after}
 use Rattle.write.specs.Write.{stage9, drawnOf, stage10}
 use Rattle.write.specs.On.{stage9On, withDrawn, stage10On}
 
@@ -26,16 +27,10 @@ unfolding stage9 need
 room-off t x y g = halts (withChains t) t (stage9 (chainsIn t) x y) t (rw g) refl
 
 module _ (t t′ : Tables) (x y : ℕ) (g : onGrid x y ≡ true) (c : ℕ) (c= : c ≡ cellOf x y) where
-  pub room-lost : ended nothing (withChains t) t (makeRoomOn t c) ≡ (says 12 [], t′) → turned t (stage9On t x y) ≡ (said 12 none, t′)
-  unfolding stage9 need andThen
-  room-lost e = let d = ended-corrupt nothing (withChains t) t t′ (makeRoomOn t c) e in halts (withChains t) t (stage9 (chainsIn t) x y) t′ (rw (g, sym c=, d .0)) (d .1)
-
-  room-there : (d : Chains) → makeRoomOn t c ≡ done d → withChains t d ≡ t′ → turned t (stage9On t x y) ≡ (said 0 (some WriteTuple), t′)
-  unfolding stage9 need andThen
-  room-there d e q = moves (withChains t) t (stage9 (chainsIn t) x y) t′ 0 WriteTuple d (rw (g, sym c=, e)) (sym q)
-
-  pub room-made : ended nothing (withChains t) t (makeRoomOn t c) ≡ (says 0 [], t′) → turned t (stage9On t x y) ≡ (said 0 (some WriteTuple), t′)
-  room-made e = let d = ended-done nothing (withChains t) t t′ (makeRoomOn t c) e in room-there (d .0) (d .1) (d .3)
+  pub room-made : (r : Change) {u : Turn} → ended nothing (withChains t) t (makeRoomOn t c) ≡ (changeSays r, t′) →
+      u ≡ turnAfter r WriteTuple → turned t (stage9On t x y) ≡ (turnSays u, t′)
+  unfolding stage9 need
+  room-made r e q = rw (g, sym c=) (turns-after (withChains t) t t′ (makeRoomOn t c) WriteTuple r e q)
 
 -- stage 10: as write_tuple ends
 pub write-off : (t : Tables) (k x y : ℕ) → onGrid x y ≡ false → turned t (stage10On t k x y) ≡ (said 12 none, t)

@@ -6,7 +6,6 @@ ghost use Rattle.write.specs.On.{stage9On, stage10On};
 ghost use Rattle.tables.specs.Promise.{OnGrid, OnWords};
 ghost use Rattle.words.specs.Map.{TIMES, WORDS};
 ghost use Rattle.stage.specs.Promise.{Turns};
-use base::Change;
 use base::LAST_STAMP;
 use cells::Written;
 use cells::make_room;
@@ -15,6 +14,7 @@ use layout::place::cell_of;
 use layout::place::on_grid;
 use stage::Stage;
 use stage::Turn;
+use stage::turn_after;
 use words::CLOCK;
 
 // stage 9: the new cell gets room for a tuple.
@@ -26,10 +26,7 @@ pub fn make_room_stage(words: &mut [u32], x: u32, y: u32) -> Turn
         return Turn::Corrupt;
     }
     let made = make_room(words, cell_of(x, y));
-    match made {
-        Change::Corrupt => Turn::Corrupt,
-        Change::Done => Turn::Advanced(Stage::WriteTuple),
-    }
+    turn_after(made, Stage::WriteTuple)
 }
 
 // stage 10: the tuple is written with a new stamp, and goes uncounted yet.

@@ -1,6 +1,6 @@
 -- look_last does what `stage3` says of all tables: one law of Steps.antt for each return, by what last_tuple and lock_other answered.
 use denote.Ref.{now}
-use Rattle.cells.specs.Chain.{last}
+use Rattle.cells.specs.Chain.{lastIn}
 use Rattle.cells.proofs.Answers.{last-corrupt, last-at}
 use Rattle.tables.specs.Grid.{grid}
 use Rattle.acquire.proofs.Steps.{look-none, look-own, look-lost, look-back, look-took}
@@ -27,7 +27,7 @@ returns : tie.Need-returns
 returns c ts =
     let s = c .before .before .before .before .before in
     look-none (grid (now (s .args .words)) ts) (s .args .place) (s .args .oid) (s .args .owner)
-    (last-corrupt (last _ _ _ _) _ (c .before .before .last-tuple .ensures ts) (c .enum-told .given .1))
+    (last-corrupt (lastIn _ _ _ _) _ (c .before .before .last-tuple .ensures ts) (c .enum-told .given .1))
 
 same-length-2 : tie.Need-same-length-2
 same-length-2 c = search needs
@@ -37,7 +37,7 @@ returns-2 c ts =
     let at-last-tuple = c .before .before .before .before in
     let s = at-last-tuple .before .before .before in
     look-own (grid (now (s .args .words)) ts) (s .args .place) (s .args .oid) (s .args .owner)
-    (c .before .before .l .given .0 .0) (last-at (last _ _ _ _) _ (at-last-tuple .last-tuple .ensures ts) _
+    (c .before .before .l .given .0 .0) (last-at (lastIn _ _ _ _) _ (at-last-tuple .last-tuple .ensures ts) _
     (c .before .before .l .given .1)) (c .if1 .taken)
 
 lock-other-requires : tie.Need-lock-other-requires
@@ -66,7 +66,7 @@ returns-3 c ts =
     let at-last-tuple = at-l .before .before in
     let s = at-last-tuple .before .before .before in
     look-lost (grid (now (s .args .words)) ts) (s .args .place) (s .args .oid) (s .args .owner) (at-l .l .given .0 .0)
-    (last-at (last _ _ _ _) _ (at-last-tuple .last-tuple .ensures ts) _ (at-l .l .given .1))
+    (last-at (lastIn _ _ _ _) _ (at-last-tuple .last-tuple .ensures ts) _ (at-l .l .given .1))
     (at-if1 .if1 .left) (grid (at-lock-other .lock-other .last .0) ts) (at-lock-other .lock-other .ensures ts)
     (c .enum-told2 .given .1)
 
@@ -82,7 +82,7 @@ returns-4 c ts =
     let at-last-tuple = at-l .before .before in
     let s = at-last-tuple .before .before .before in
     look-back (grid (now (s .args .words)) ts) (s .args .place) (s .args .oid) (s .args .owner) (at-l .l .given .0 .0)
-    (last-at (last _ _ _ _) _ (at-last-tuple .last-tuple .ensures ts) _ (at-l .l .given .1))
+    (last-at (lastIn _ _ _ _) _ (at-last-tuple .last-tuple .ensures ts) _ (at-l .l .given .1))
     (at-if1 .if1 .left) (grid (at-lock-other .lock-other .last .0) ts) (at-lock-other .lock-other .ensures ts)
     (at-enum-told3 .enum-told3 .given .1) _ _ (c .before .before .go-back .ensures ts)
 
@@ -97,7 +97,7 @@ returns-5 c ts =
     let at-last-tuple = at-l .before .before in
     let s = at-last-tuple .before .before .before in
     look-took (grid (now (s .args .words)) ts) (s .args .place) (s .args .oid) (s .args .owner) (at-l .l .given .0 .0)
-    (last-at (last _ _ _ _) _ (at-last-tuple .last-tuple .ensures ts) _ (at-l .l .given .1))
+    (last-at (lastIn _ _ _ _) _ (at-last-tuple .last-tuple .ensures ts) _ (at-l .l .given .1))
     (at-if1 .if1 .left) (grid (at-lock-other .lock-other .last .0) ts) (at-lock-other .lock-other .ensures ts)
     (c .enum-told4 .given .1)
 

@@ -1,5 +1,5 @@
 -- release_object does what `stage14` says of the index: as free_object answers.
-use mathlib.Core.Path.{ap, sym, _∙_}
+use mathlib.Core.Path.{ap, _∙_}
 use denote.Ref.{now}
 use Rattle.base.specs.Outcome.{nothing}
 use Rattle.base.proofs.Outcome.{ended-corrupt, ended-done}

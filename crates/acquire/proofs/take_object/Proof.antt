@@ -18,7 +18,7 @@ use Rattle.acquire.proofs.Landing.{moves, stays}
 use borrow.Author.Needs.{needs}
 use Rattle.acquire.proofs.take_object.Statement.{statement}
 use Rattle.acquire.proofs.take_object.Tie as tie
-use Rattle.acquire.proofs.hold_lock.Reads as hold-lock-reads
+use Rattle.stage.proofs.hold_lock.Reads as hold-lock-reads
 use Rattle.index.proofs.place.read_place.Reads as read-place-reads
 use Rattle.index.proofs.search.find_object.Reads as find-object-reads
 use Rattle.locks.proofs.look_lock.Reads as look-lock-reads

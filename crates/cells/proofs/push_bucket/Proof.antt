@@ -3,7 +3,7 @@ use mathlib.Core.Path.{sym, ap, _∙_}
 use denote.Ref.{now}
 use borrow.Author.Tests.{le-ltb}
 use Rattle.base.specs.Outcome.{need, andThen}
-use Rattle.pool.specs.Pool.{take}
+use Rattle.pool.specs.Pool.{takeTop}
 use Rattle.pool.proofs.Answers.{taken-corrupt, taken-bucket}
 use Rattle.pool.proofs.Laws.{take-below}
 use Rattle.tables.specs.Tables.{Tables, withPool}
@@ -52,7 +52,7 @@ returns-2 c ts =
     let s = at-if1 .before .before in
     let e = (taken-corrupt _ _ _ (at-take-bucket .take-bucket .ensures) (c .enum-told .given .1)) in
     dry (grid (now (s .args .words)) ts) (s .args .cell) (at-if1 .if1 .left)
-    (ap take (sym (pool-lent (now (s .args .words)) ts (s .pre))) ∙ e .0) _
+    (ap takeTop (sym (pool-lent (now (s .args .words)) ts (s .pre))) ∙ e .0) _
     (stored-pool (now (s .args .words)) (s .pre) (at-take-bucket .take-bucket .last .0)
     (at-take-bucket .take-bucket .kept .0) ts ∙ ap (withPool (grid (now (s .args .words)) ts))
     (e .1 ∙ pool-lent (now (s .args .words)) ts (s .pre)))
@@ -79,7 +79,7 @@ returns-3 c ts =
     let at-if1 = at-take-bucket .before .before in
     let s = at-if1 .before .before in
     pushed (grid (now (s .args .words)) ts) (s .args .cell) _ (at-take-bucket .take-bucket .last .0)
-    (at-if1 .if1 .left) (ap take (sym (pool-lent (now (s .args .words)) ts (s .pre))) ∙
+    (at-if1 .if1 .left) (ap takeTop (sym (pool-lent (now (s .args .words)) ts (s .pre))) ∙
     (taken-bucket _ _ _ (at-take-bucket .take-bucket .ensures) _ (at-taken .taken .given .1))) _
     (c .before .before .link-bucket .ensures ts ∙ ap
     (λ (t : Tables). linked t (s .args .cell) (at-taken .taken .given .0 .0))

@@ -1,14 +1,21 @@
--- raise does what stage 11 says: as raise_count answers.
+-- raise does what stage 11 says: as raise_count ends on the counts, seen on all tables, by the law of turn_after.
 use mathlib.Core.Path.{_∙_}
 use denote.Ref.{now}
+use Rattle.base.specs.Answer.{changeSays}
+use Rattle.base.specs.Outcome.{nothing}
+use Rattle.base.proofs.Ends.{within}
+use Rattle.tables.specs.Tables.{withCount}
 use Rattle.tables.specs.Grid.{grid}
 use Rattle.tables.proofs.Grid.{put-count}
+use Rattle.cells.specs.Chain.{raise}
 use Rattle.cells.proofs.Stored.{count#}
-use Rattle.commit.proofs.Raising.{raise-lost, raise-done}
+use Rattle.stage.proofs.After.{turns-after}
+use Rattle.commit.specs.Commit.{stage11}
 use borrow.Author.Needs.{needs}
 use Rattle.commit.proofs.raise.Statement.{statement}
 use Rattle.commit.proofs.raise.Tie as tie
 use Rattle.cells.proofs.raise_count.Reads as raise-count-reads
+use Rattle.stage.proofs.turn_after.Reads as turn-after-reads
 
 sub-raise-count : tie.Need-sub-raise-count
 sub-raise-count c = search needs
@@ -22,37 +29,26 @@ part-raise-count-end c = search needs
 raise-count-requires : tie.Need-raise-count-requires
 raise-count-requires c κs = search needs
 
-enum-told : tie.Need-enum-told
-enum-told c = search needs
-
-enum-told-2 : tie.Need-enum-told-2
-enum-told-2 c = search needs
+turn-after-requires : tie.Need-turn-after-requires
+turn-after-requires c κs = search needs
 
 same-length : tie.Need-same-length
 same-length c = search needs
 
 returns : tie.Need-returns
-unfolding grid
+unfolding stage11 grid
 returns c ts =
-    let at-raise-count = c .before .before .before .before in
+    let at-raise-count = c .before .before .before in
     let s = at-raise-count .before .before .before in
-    raise-lost (grid (now (s .args .words)) ts) _ (s .args .place) (at-raise-count .raise-count .last .0)
-    (rw (c .enum-told .given .1) at (at-raise-count .raise-count .ensures))
-    (put-count (now (s .args .words)) ts (s .pre) (at-raise-count .raise-count .last .0)
-    (at-raise-count .raise-count .kept .0 ∙ count# (now (s .args .words)) (s .pre)))
-
-same-length-2 : tie.Need-same-length-2
-same-length-2 c = search needs
-
-returns-2 : tie.Need-returns-2
-unfolding grid
-returns-2 c ts =
-    let at-raise-count = c .before .before .before .before in
-    let s = at-raise-count .before .before .before in
-    raise-done (grid (now (s .args .words)) ts) _ (s .args .place) (at-raise-count .raise-count .last .0)
-    (rw (c .enum-told2 .given .1) at (at-raise-count .raise-count .ensures))
-    (put-count (now (s .args .words)) ts (s .pre) (at-raise-count .raise-count .last .0)
-    (at-raise-count .raise-count .kept .0 ∙ count# (now (s .args .words)) (s .pre)))
+    let w = now (s .args .words) in
+    let t = grid w ts in
+    let n = at-raise-count .raise-count .last .0 in
+    let a = at-raise-count .raise-count .result in
+    let o = raise (t .count) ((s .args .place) .bucket) in
+    turns-after (withCount t) t _ o _ a
+    (within nothing (withCount t) (t .count) o (changeSays a) n _ (at-raise-count .raise-count .ensures)
+    (put-count w ts (s .pre) n (at-raise-count .raise-count .kept .0 ∙ count# w (s .pre))))
+    (c .turn-after .ensures)
 
 pub raise-spec : {M : Type 1} → statement M
 raise-spec =
@@ -62,9 +58,6 @@ raise-spec =
     part-raise-count-start
     part-raise-count-end
     raise-count-requires
-    enum-told
-    enum-told-2
+    turn-after-requires
     same-length
-    returns
-    same-length-2
-    returns-2)
+    returns)

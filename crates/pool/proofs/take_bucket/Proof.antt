@@ -1,24 +1,24 @@
 -- take_bucket does what `take` says: one case for each return, by the tests that led there.
 use borrow.Author.Tests.{eq-eqb, le-leb, le-ltb, lt-leb, lt-ltb, ne-eqb}
 use Rattle.base.specs.Outcome.{need, tells, leaves}
-use Rattle.pool.specs.Pool.{take, height, withHeight}
+use Rattle.pool.specs.Pool.{takeTop, height, withHeight}
 use borrow.Author.Needs.{needs}
 use Rattle.pool.proofs.take_bucket.Statement.{statement}
 use Rattle.pool.proofs.take_bucket.Tie as tie
 
 returns : tie.Need-returns
-unfolding take height withHeight need tells leaves
+unfolding takeTop height withHeight need tells leaves
 returns c = rw (ne-eqb _ _ (c .if1 .taken))
 
 slice-read-height : tie.Need-slice-read-height
 slice-read-height c = search needs
 
 returns-2 : tie.Need-returns-2
-unfolding take height withHeight need tells leaves
+unfolding takeTop height withHeight need tells leaves
 returns-2 c = rw (eq-eqb _ _ (c .before .before .if1 .left), eq-eqb _ _ (c .if2 .taken))
 
 returns-3 : tie.Need-returns-3
-unfolding take height withHeight need tells leaves
+unfolding takeTop height withHeight need tells leaves
 returns-3 c =
     let at-if1 = c .before .before .before in
     rw (eq-eqb _ _ (at-if1 .if1 .left), ne-eqb _ _ (c .before .if2 .left), lt-leb _ _ (c .if3 .taken))
@@ -36,7 +36,7 @@ slice-read-bucket : tie.Need-slice-read-bucket
 slice-read-bucket c = search needs
 
 returns-4 : tie.Need-returns-4
-unfolding take height withHeight need tells leaves
+unfolding takeTop height withHeight need tells leaves
 returns-4 c =
     let at-if2 = c .before .before .before in
     let at-if1 = at-if2 .before .before in
@@ -57,7 +57,7 @@ same-length : tie.Need-same-length
 same-length c = search needs
 
 returns-5 : tie.Need-returns-5
-unfolding take height withHeight need tells leaves
+unfolding takeTop height withHeight need tells leaves
 returns-5 c =
     let at-if2 = c .before .before .before in
     let at-if1 = at-if2 .before .before in
