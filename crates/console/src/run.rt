@@ -1,4 +1,6 @@
 // A whole run: a line in, its answer out, until the input ends.
+ghost use Rattle.console.specs.Run.{Ran};
+use crate::output::hand_over;
 use crate::progress::next_line;
 use crate::progress::no_progress;
 use crate::turn::Due;
@@ -9,9 +11,21 @@ use updates::lanes::idle_updaters;
 use words::TIMES;
 use words::WORDS;
 
-// Runs the script that the input has on an empty grid of its own. False where a read or a write failed, which ends the run.
+// How a run ended.
+pub struct Ended {
+    // No read failed.
+    pub reads: bool,
+    // No write failed.
+    pub writes: bool,
+    // The input was read to its end.
+    pub whole: bool,
+}
+
+// Runs the script that the input has on an empty grid of its own. A read or a write that fails ends the run.
 // The line numbers bound the loop.
-pub fn run_script(input: i32, output: i32) -> bool {
+pub fn run_script(input: i32, output: i32) -> Ended
+    ensures { λ r. ⌜ Ran r ⌝ }
+{
     let mut words = [0u32; WORDS];
     let mut times = [0i32; TIMES];
     let mut list = [0u32; 768];
@@ -22,7 +36,7 @@ pub fn run_script(input: i32, output: i32) -> bool {
     let mut updaters = lanes.updaters;
     let mut queries = lanes.queries;
     let mut number: u64 = 0;
-    let mut p = no_progress(true);
+    let mut p = no_progress();
     while number < u64::MAX {
         p = next_line(input, output, &mut block, &mut line, &out, p);
         if !p.more {
@@ -49,6 +63,19 @@ pub fn run_script(input: i32, output: i32) -> bool {
         p.waiting = done.waiting;
     }
     let waiting = p.waiting;
-    let written = io::write_all(output, &out[..waiting]);
-    written && p.works
+    let rest = hand_over(output, &out, waiting);
+    let reads = p.reads;
+    let whole = p.last;
+    if !p.writes {
+        return Ended {
+            reads,
+            writes: false,
+            whole,
+        };
+    }
+    Ended {
+        reads,
+        writes: rest.writes,
+        whole,
+    }
 }

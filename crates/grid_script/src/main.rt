@@ -6,7 +6,11 @@ use libc::STDOUT_FILENO;
 
 // A failure is told on standard error: a Rattle program has no exit status.
 fn main() {
-    if !run_script(STDIN_FILENO, STDOUT_FILENO) {
-        io::write_all(STDERR_FILENO, b"grid_script: input or output failed\n");
+    let run = run_script(STDIN_FILENO, STDOUT_FILENO);
+    if !run.reads {
+        io::write_all(STDERR_FILENO, b"grid_script: reading failed\n");
+    }
+    if !run.writes {
+        io::write_all(STDERR_FILENO, b"grid_script: writing failed\n");
     }
 }

@@ -17,10 +17,13 @@ fn run_named(i: usize) {
     io::write_all(STDOUT_FILENO, b"# ");
     io::write_all(STDOUT_FILENO, &path[..n]);
     io::write_all(STDOUT_FILENO, b"\n");
-    let works = run_script(script, STDOUT_FILENO);
+    let run = run_script(script, STDOUT_FILENO);
     libc::close(script);
-    if !works {
-        io::write_all(STDERR_FILENO, b"test_vectors: input or output failed\n");
+    if !run.reads {
+        io::write_all(STDERR_FILENO, b"test_vectors: reading failed\n");
+    }
+    if !run.writes {
+        io::write_all(STDERR_FILENO, b"test_vectors: writing failed\n");
     }
 }
 

@@ -1,16 +1,27 @@
--- run_script ends, by its line numbers, and stays in its tables and buffers: the invariant has their lengths, what the block has and what waits.
+-- run_script ends, by its line numbers, stays in its tables and buffers, and keeps `Ran`: the invariant has the lengths, what the block has,
+-- what waits, and how the output so far stands (`Before`, of Sofar.antt). Each step of the loop is a law of Sofar.antt.
 use mathlib.Core.Path.{refl, sym}
-use Prim.Native.Nat.{_-_, _≤_}
-use lib.Seq.{length-take-le}
+use mathlib.Core.Bool.{Bool}
 use mathlib.Core.Logic.{⊎-elim}
+use Prim.Native.Nat.{_-_, _≤_}
 use native.Mathlib.Omega.{arith}
-use Rattle.console.proofs.Sizes.{Sizes, zero-below, next-asked, answer-asked, still, next-fits, count-down, waits}
+use borrow.Author.Tests.{not-true, not-false}
+use lib.ListN.{take}
+use lib.Seq.{length-take-le}
+use Rattle.tables.specs.Grid.{grid}
+use Rattle.grid.specs.Run.{gridOf}
+use Rattle.console.specs.Run.{Ran}
+use Rattle.console.proofs.Sizes.{Sizes, started, next-asked, answer-asked, still, next-fits, count-down, waits}
+use Rattle.console.proofs.Sofar.{Before, reset-empty, sofar-start, sofar-next, sofar-turn, ran-before, ran-behind}
 use Rattle.console.proofs.run.run_script.Statement.{statement}
 use Rattle.console.proofs.run.run_script.Tie as tie
 
 abbrev Inv-loop : tie.InvT-loop
 Inv-loop input output words₀ times₀ list₀ block₀ line₀ out₀ updaters₀ queries₀ number₀ p₀ words times list block line out updaters queries number p =
-    Sizes words times list block line out × (p .filled ≤ 4096) × (p .waiting ≤ 16384)
+    Sizes words times list block line out
+    × (p .filled ≤ 4096)
+    × (p .waiting ≤ 16384)
+    × Before number block p out (gridOf (grid words times) updaters queries) list
 
 abbrev μ-loop : tie.MeasureT-loop
 μ-loop input output words₀ times₀ list₀ block₀ line₀ out₀ updaters₀ queries₀ number₀ p₀ words times list block line out updaters queries number p =
@@ -37,7 +48,8 @@ no-progress-requires c κs = tt
 loop-holds : tie.Need-loop-holds Inv-loop μ-loop
 loop-holds c =
     let at-times2 = c .before .before .before in
-    let at-words2 = at-times2 .before in (
+    let at-words2 = at-times2 .before in
+    let at-reset = at-words2 .before in (
       record {
         words = sym (at-words2 .words2 .given);
         times = sym (at-times2 .times2 .given);
@@ -47,9 +59,9 @@ loop-holds c =
         line = refl;
         out = refl;
       },
-      zero-below (c .no-progress .ensures .0),
-      zero-below
-          (c .no-progress .ensures .2),
+      started (c .no-progress .ensures) .0,
+      started (c .no-progress .ensures) .1,
+      sofar-start _ _ (c .no-progress .ensures) (reset-empty _ _ _ _ _ _ _ refl refl (at-reset .reset .ensures)),
     )
 
 slice-aggregate-next-line : tie.Need-slice-aggregate-next-line Inv-loop μ-loop
@@ -80,13 +92,13 @@ add-number c =
 array-share-prefix-line : tie.Need-array-share-prefix-line Inv-loop μ-loop
 array-share-prefix-line c =
     let at-next-line = c .before .before .before .before in
-    still (at-next-line .next-line .ensures .1) (sym (c .before .before .line2 .given))
+    still (at-next-line .next-line .ensures .few) (sym (c .before .before .line2 .given))
 
 slice-aggregate-answer-line : tie.Need-slice-aggregate-answer-line Inv-loop μ-loop
 slice-aggregate-answer-line c =
     let at-line2 = c .before .before .before in
     let at-next-line = at-line2 .before .before in
-    sym (length-take-le _ _ (still (at-next-line .next-line .ensures .1) (sym (at-line2 .line2 .given))))
+    sym (length-take-le _ _ (still (at-next-line .next-line .ensures .few) (sym (at-line2 .line2 .given))))
 
 slice-aggregate-answer-line-2 : tie.Need-slice-aggregate-answer-line-2 Inv-loop μ-loop
 slice-aggregate-answer-line-2 c =
@@ -112,7 +124,7 @@ answer-line-requires : tie.Need-answer-line-requires Inv-loop μ-loop
 answer-line-requires c κs =
     let at-next-line = c .before .before .before .before .before .before .before .before .before in
     let at-loop = at-next-line .before .before .before .before .before in
-    answer-asked (at-next-line .next-line .ensures .2) (at-loop .loop .inv .0 .out) (at-loop .loop .inv .0 .list)
+    answer-asked (at-next-line .next-line .ensures .small) (at-loop .loop .inv .0 .out) (at-loop .loop .inv .0 .list)
 
 loop-less : tie.Need-loop-less Inv-loop μ-loop
 loop-less c =
@@ -126,7 +138,8 @@ loop-again c =
     let at-list2 = at-words4 .before in
     let at-out3 = at-list2 .before in
     let at-answer-line = at-out3 .before in
-    let at-line2 = at-answer-line .before .before .before .before .before .before .before .before in
+    let at-if1 = at-answer-line .before .before .before .before .before .before in
+    let at-line2 = at-if1 .before .before in
     let at-block2 = at-line2 .before in
     let at-next-line = at-block2 .before in
     let at-loop = at-next-line .before .before .before .before .before in (
@@ -140,8 +153,10 @@ loop-again c =
         out
             = sym (at-out3 .out3 .given);
       },
-      still (at-next-line .next-line .ensures .0) (at-block2 .block2 .given),
+      still (at-next-line .next-line .ensures .filled) (at-block2 .block2 .given),
       still (at-answer-line .answer-line .ensures .fits) (sym (at-loop .loop .inv .0 .out)),
+      sofar-turn _ _ (at-next-line .next-line .result) (sofar-next (at-loop .loop .inv .3) (at-next-line .next-line .ensures))
+          (not-false _ (at-if1 .if1 .left)) (at-answer-line .answer-line .ensures),
     )
 
 -- what waits where the loop was left: as before its test, or as the last call of next_line left it
@@ -149,24 +164,28 @@ left-waiting : (c : tie.Left-loop Inv-loop μ-loop) → c .loop-test .p .waiting
 left-waiting c =
     ⊎-elim
     (λ w. waits (w .1) (c .before .loop .inv .2) (omega arith))
-    (λ w. waits (w .9) (w .4 .ensures .2) (omega arith))
+    (λ w. waits (w .9) (w .4 .ensures .small) (omega arith))
     (c .loop-test .came)
 
-array-share-prefix-out : tie.Need-array-share-prefix-out Inv-loop μ-loop
-array-share-prefix-out c = still (left-waiting c) (c .before .loop .inv .0 .out)
+-- what the run promises then
+left-ran : (c : tie.Left-loop Inv-loop μ-loop) (reads writes : Bool) → Ran (record { reads = reads; writes = writes; whole = c .loop-test .p .last })
+left-ran c reads writes =
+    ⊎-elim
+    (λ w. ran-before _ _ (c .before .loop .inv .3) (w .1))
+    (λ w. ran-behind _ _ _ (sofar-next (c .before .loop .inv .3) (w .4 .ensures)) (not-true _ (w .8 .taken)) (w .9))
+    (c .loop-test .came)
 
-slice-aggregate-write-all : tie.Need-slice-aggregate-write-all Inv-loop μ-loop
-slice-aggregate-write-all c =
-    sym (length-take-le _ _ (still (left-waiting (c .before)) (c .before .before .loop .inv .0 .out)))
+slice-aggregate-hand-over : tie.Need-slice-aggregate-hand-over Inv-loop μ-loop
+slice-aggregate-hand-over c = c .before .before .loop .inv .0 .out
 
-write-all-requires : tie.Need-write-all-requires Inv-loop μ-loop
-write-all-requires c κs = tt
+hand-over-requires : tie.Need-hand-over-requires Inv-loop μ-loop
+hand-over-requires c κs = still (left-waiting (c .before)) (c .before .before .loop .inv .0 .out)
 
 returns : tie.Need-returns Inv-loop μ-loop
-returns c = tt
+returns c = left-ran (c .before .before .before .before) _ _
 
 returns-2 : tie.Need-returns-2 Inv-loop μ-loop
-returns-2 c = tt
+returns-2 c = left-ran (c .before .before .before .before) _ _
 
 pub run-script-spec : {M : Type 1} → statement M
 run-script-spec =
@@ -195,8 +214,7 @@ run-script-spec =
     answer-line-requires
     loop-less
     loop-again
-    array-share-prefix-out
-    slice-aggregate-write-all
-    write-all-requires
+    slice-aggregate-hand-over
+    hand-over-requires
     returns
     returns-2)
