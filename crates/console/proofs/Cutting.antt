@@ -7,7 +7,7 @@ use mathlib.Core.List.{List, [], _∷_, _++_, append-assoc, append-nil}
 use Prim.Native.Nat.{ℕ, suc, _+_, _≤_}
 use native.Mathlib.Omega.{arith}
 use borrow.Author.Tests.{leb-true, leb-false}
-use Rattle.base.specs.Table.{by-test}
+use Rattle.base.proofs.Table.{by-test}
 use lib.Dec.{eqb, leb}
 use lib.ListN.{length, take, drop, length-take, length-append, drop-of-length-le}
 use lib.Seq.{take-all, take-at, length-take-le, take-append-le, append-snoc}
