@@ -1,16 +1,11 @@
 -- What a call comes to, over all tables and the lanes L that it works on.
 use mathlib.Core.Bool.{Bool, true, false, _||_}
 use mathlib.Core.Option.{Option, none, some}
-use mathlib.Core.List.{List}
 use Prim.Native.Nat.{ℕ}
 use lib.Dec.{eqb}
-use lib.IntN.{ℤ}
 use Rattle.base.specs.Outcome.{Outcome, corrupt, blocked, done}
 use Rattle.base.specs.Step.{Step}
-use Rattle.slots.specs.Tuple.{tuplesOf}
-use Rattle.index.specs.Index.{indexOf}
-use Rattle.hits.specs.Hits.{hitsOf}
-use Rattle.tables.specs.Tables.{Tables, tablesOf}
+use Rattle.tables.specs.Tables.{Tables}
 
 -- refused with a number, which changes nothing, or answered with a number, the tables and the lanes afterwards
 pub data Result (L : Type 0) : Type 0 where
@@ -45,11 +40,6 @@ stepped t ls put (done m) = answered (m .number) (m .tables) (put (m .next))
 abbrev pub nextLanes : {S L : Type 0} → L → (S → L) → Option S → L
 nextLanes ls put none = ls
 nextLanes ls put (some s) = put s
-
--- the tables as the operations are lent them
-abbrev pub gridTables : List ℕ → List ℕ → List ℕ → List ℕ → List ℕ → List ℕ → List ℕ → List ℕ → List ℤ → List ℕ → List ℕ → List ℕ → List ℕ → List ℕ → List ℕ → List ℕ → List ℕ → ℕ → Tables
-gridTables first cells count next readers owners xs ys times oids locks current previous pool hits hitxs hitys clock =
-    tablesOf first cells count next readers (tuplesOf owners xs ys times) (indexOf oids locks current previous) pool (hitsOf hits hitxs hitys) clock
 
 -- THE NUMBERS OF ACCEPTED CALLS: 0, and of a step also blocked 20, restarted 21, finished 22. Every other number is a refusal.
 abbrev pub acceptedNumber : ℕ → Bool
