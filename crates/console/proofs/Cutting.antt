@@ -1,5 +1,6 @@
--- LINES CUT FROM BLOCKS. The lines of some bytes with others behind them: where the first have a line feed, the bytes before it are a
--- line and the rest goes on; where they have none, they are kept of the line that the others go on with. By induction on the bytes.
+-- LINES CUT FROM BLOCKS. The lines of some bytes with others behind them: where the first have a line feed, the bytes
+-- before it are a line and the rest goes on; where they have none, they are kept of the line that the others go on
+-- with. By induction on the bytes.
 use mathlib.Core.Path.{_≡_, refl, sym, ap, _∙_}
 use mathlib.Core.Bool.{Bool, true, false}
 use mathlib.Core.Option.{Option, none, some}
@@ -13,7 +14,7 @@ use lib.ListN.{length, take, drop, length-take, length-append, drop-of-length-le
 use lib.Seq.{take-all, take-at, length-take-le, take-append-le, append-snoc}
 use Rattle.base.specs.Outcome.{pick}
 use Rattle.script.specs.Split.{before, behind, spent}
-use Rattle.console.specs.Lines.{joined, lastLine, linesFrom}
+use Rattle.console.specs.Lines.{joined, lastLine, keptLines}
 
 -- ---- blocks one behind the other
 
@@ -54,42 +55,47 @@ none-some e = let z : _≡_ {A = ℕ} 0 1 = cc in omega arith
 
 -- no line feed
 on-by : (b : ℕ) (bytes later had : List ℕ) (t : Bool)
-    → (behind bytes ≡ none → linesFrom (take 61 (had ++ b ∷ [])) (bytes ++ later) ≡ linesFrom (take 61 (take 61 (had ++ b ∷ []) ++ before bytes)) later)
+    → (behind bytes ≡ none → keptLines (take 61 (had ++ b ∷ [])) (bytes ++ later) ≡ keptLines
+    (take 61 (take 61 (had ++ b ∷ []) ++ before bytes)) later)
     → pick t (some bytes) (behind bytes) ≡ none
-    → pick t (had ∷ linesFrom [] (bytes ++ later)) (linesFrom (take 61 (had ++ b ∷ [])) (bytes ++ later))
-    ≡ linesFrom (take 61 (had ++ pick t [] (b ∷ before bytes))) later
+    → pick t (had ∷ keptLines [] (bytes ++ later)) (keptLines (take 61 (had ++ b ∷ [])) (bytes ++ later))
+    ≡ keptLines (take 61 (had ++ pick t [] (b ∷ before bytes))) later
 unfolding pick
 on-by b bytes later had true ih f = absurd (none-some (sym f))
-on-by b bytes later had false ih f = ih f ∙ ap (λ (l : List ℕ). linesFrom l later) (kept-byte had b (before bytes))
+on-by b bytes later had false ih f = ih f ∙ ap (λ (l : List ℕ). keptLines l later) (kept-byte had b (before bytes))
 
 pub lines-on : (bytes later had : List ℕ) → length had ≤ 61 → behind bytes ≡ none
-    → linesFrom had (bytes ++ later) ≡ linesFrom (take 61 (had ++ before bytes)) later
-unfolding linesFrom before behind pick
-lines-on [] later had h e = sym (ap (λ (l : List ℕ). linesFrom l later) (ap (take 61) (append-nil had) ∙ take-all 61 had h))
+    → keptLines had (bytes ++ later) ≡ keptLines (take 61 (had ++ before bytes)) later
+unfolding keptLines before behind pick
+lines-on [] later had h e = sym (ap (λ (l : List ℕ). keptLines l later)
+    (ap (take 61) (append-nil had) ∙ take-all 61 had h))
 lines-on (b ∷ bytes) later had h e =
     on-by b bytes later had (eqb b 10) (lines-on bytes later (take 61 (had ++ b ∷ [])) (kept-short (had ++ b ∷ []))) e
 
 -- a line feed
 cut-by : (b : ℕ) (bytes later had rest : List ℕ) (t : Bool) → length had ≤ 61
     → (behind bytes ≡ some rest
-    → linesFrom (take 61 (had ++ b ∷ [])) (bytes ++ later) ≡ take 61 (take 61 (had ++ b ∷ []) ++ before bytes) ∷ linesFrom [] (rest ++ later))
+    → keptLines (take 61 (had ++ b ∷ [])) (bytes ++ later) ≡ take 61
+    (take 61 (had ++ b ∷ []) ++ before bytes) ∷ keptLines [] (rest ++ later))
     → pick t (some bytes) (behind bytes) ≡ some rest
-    → pick t (had ∷ linesFrom [] (bytes ++ later)) (linesFrom (take 61 (had ++ b ∷ [])) (bytes ++ later))
-    ≡ take 61 (had ++ pick t [] (b ∷ before bytes)) ∷ linesFrom [] (rest ++ later)
+    → pick t (had ∷ keptLines [] (bytes ++ later)) (keptLines (take 61 (had ++ b ∷ [])) (bytes ++ later))
+    ≡ take 61 (had ++ pick t [] (b ∷ before bytes)) ∷ keptLines [] (rest ++ later)
 unfolding pick
 cut-by b bytes later had rest true h ih f = rw (append-nil had, take-all 61 had h, some-same f)
 cut-by b bytes later had rest false h ih f =
-    ih f ∙ ap (λ (l : List ℕ). l ∷ linesFrom [] (rest ++ later)) (kept-byte had b (before bytes))
+    ih f ∙ ap (λ (l : List ℕ). l ∷ keptLines [] (rest ++ later)) (kept-byte had b (before bytes))
 
 pub lines-cut : (bytes later had rest : List ℕ) → length had ≤ 61 → behind bytes ≡ some rest
-    → linesFrom had (bytes ++ later) ≡ take 61 (had ++ before bytes) ∷ linesFrom [] (rest ++ later)
-unfolding linesFrom before behind pick
+    → keptLines had (bytes ++ later) ≡ take 61 (had ++ before bytes) ∷ keptLines [] (rest ++ later)
+unfolding keptLines before behind pick
 lines-cut [] later had rest h e = absurd (none-some e)
 lines-cut (b ∷ bytes) later had rest h e =
-    cut-by b bytes later had rest (eqb b 10) h (lines-cut bytes later (take 61 (had ++ b ∷ [])) rest (kept-short (had ++ b ∷ []))) e
+    cut-by b bytes later had rest (eqb b 10) h
+    (lines-cut bytes later (take 61 (had ++ b ∷ [])) rest (kept-short (had ++ b ∷ []))) e
 
 -- all bytes up to the end are spent where there is no line feed
-spent-by : (bytes : List ℕ) (t : Bool) → (behind bytes ≡ none → spent bytes ≡ length bytes) → pick t (some bytes) (behind bytes) ≡ none
+spent-by : (bytes : List ℕ) (t : Bool) → (behind bytes ≡ none → spent bytes ≡ length bytes)
+    → pick t (some bytes) (behind bytes) ≡ none
     → pick t 1 (suc (spent bytes)) ≡ suc (length bytes)
 unfolding pick
 spent-by bytes true ih f = absurd (none-some (sym f))

@@ -5,14 +5,23 @@ use mathlib.Core.Bool.{Bool, true, false}
 use mathlib.Core.List.{List, [], _∷_, _++_}
 use Prim.Native.Nat.{ℕ, _≤_}
 use lib.ListN.{length, take}
-use Rattle.console.specs.Lines.{joined, linesFrom}
+use Rattle.console.specs.Lines.{joined, keptLines}
 use Rattle.console.specs.Reading.{unread}
 use Rattle.console.specs.declared.output.Output.{Output}
 use Rattle.console.specs.declared.progress.Progress.{Progress}
 
 -- the start of a run
 abbrev pub atStart : Progress
-atStart = record { reads = true; writes = true; more = false; last = false; next = 0; filled = 0; kept = 0; waiting = 0 }
+atStart = record {
+  reads = true;
+  writes = true;
+  more = false;
+  last = false;
+  next = 0;
+  filled = 0;
+  kept = 0;
+  waiting = 0;
+}
 
 -- no line more: reading stays where it is
 abbrev pub noLine : Progress → Output → Progress
@@ -33,13 +42,13 @@ abbrev pub Later : Bool → List ℕ → Type 0
 Later true later = later ≡ []
 Later false later = Unit {0}
 
--- the lines to come, with what is kept of a line and the bytes behind it: first that line, if it is to be answered; nothing
--- behind it if the input has ended
+-- the lines to come, with what is kept of a line and the bytes behind it: first that line, if it is to be answered;
+-- nothing behind it if the input has ended
 abbrev pub due : Bool → Bool → List ℕ → List ℕ → List (List ℕ)
 due true true kept bytes = kept ∷ []
-due true false kept bytes = kept ∷ linesFrom [] bytes
+due true false kept bytes = kept ∷ keptLines [] bytes
 due false true kept bytes = []
-due false false kept bytes = linesFrom kept bytes
+due false false kept bytes = keptLines kept bytes
 
 -- places in a block, a line and a buffer that are as long as they must be
 pub record Ready (block line out : List ℕ) (p : Progress) : Type 0 where
@@ -47,8 +56,9 @@ pub record Ready (block line out : List ℕ) (p : Progress) : Type 0 where
   pub full : length line ≡ 61
   pub waiting : p .waiting ≤ length out
 
--- THE NEXT LINE: there are blocks, those that `read` gave meanwhile, such that the lines to come are those of the bytes that were
--- unread, of these blocks, and of what comes later. What waits was not touched, or was handed over, all of it.
+-- THE NEXT LINE: there are blocks, those that `read` gave meanwhile, such that the lines to come are those of the bytes
+-- that were unread, of these blocks, and of what comes later. What waits was not touched, or was handed over, all of
+-- it.
 pub record NextLine (block block′ line′ : List ℕ) (p r : Progress) : Type 0 where
   pub filled : r .filled ≤ length block′
   pub few : r .kept ≤ 61

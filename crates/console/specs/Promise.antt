@@ -1,4 +1,5 @@
--- WHAT ANSWERING A LINE PROMISES, of the tables t as it finds them and t′ as it leaves them: the line is done, and its answer printed behind what waits.
+-- WHAT ANSWERING A LINE PROMISES, of the tables t as it finds them and t′ as it leaves them: the line is done, and its
+-- answer printed behind what waits.
 use mathlib.Core.List.{List}
 use Prim.Native.Nat.{ℕ}
 use Rattle.base.specs.Lent.{Lent, old, new}
@@ -10,7 +11,8 @@ use Rattle.console.specs.Turn.{Turn}
 use Rattle.console.specs.declared.turn.Due.{Due}
 use Rattle.console.specs.declared.turn.Answered.{Answered}
 
-abbrev pub Prints : Lent (List ℕ) → Due → Lent (List ℕ) → Lent (List ℕ) → List Updater → List Query → Answered → Tables → Tables → Type 0
+abbrev pub Prints : Lent (List ℕ) → Due → Lent (List ℕ) → Lent (List ℕ) → List Updater → List Query → Answered
+    → Tables → Tables → Type 0
 Prints line due out list us qs r t t′ =
     Turn (due .number) (old line) (gridOf t us qs) (old list) (old out) (due .waiting)
     (gridOf t′ (r .updaters) (r .queries)) (new list) (new out) (r .waiting)

@@ -1,7 +1,7 @@
--- WHAT A RUN PROMISES: there are blocks, those that `read` gave, and pieces, those that were handed to `write_all`, each in order,
--- such that the pieces are the beginning of the output of the blocks' lines on an empty grid, and all of it where the input was
--- read to its end. A contract cannot say what `read` gave and `write` took, so this alone is met by a run that does nothing; what
--- binds the program is what its parts promise of the buffers that they are lent (Reading, Next, Writing, Turn; docs/DECISIONS.md).
+-- WHAT A RUN PROMISES: there are blocks, those that `read` gave, and pieces, those that were handed to `write_all`,
+-- each in order, such that the pieces are the beginning of the output of the blocks' lines on an empty grid, and all of
+-- it where the input was read to its end. The kit cannot say more of them: what `read` and `write` did is behind the
+-- program's edge (docs/DECISIONS.md).
 use mathlib.Core.Path.{_≡_}
 use mathlib.Core.Bool.{true}
 use mathlib.Core.List.{List, _++_}
@@ -12,7 +12,8 @@ use Rattle.console.specs.Lines.{joined, linesOf}
 use Rattle.console.specs.Text.{scriptText}
 use Rattle.console.specs.declared.run.Ended.{Ended}
 
--- THE OUTPUT OF AN INPUT: of its lines, numbered from 1, on an empty grid, with a list of 768 numbers lent to collections
+-- THE OUTPUT OF AN INPUT: of its lines, numbered from 1, on an empty grid, with a list of 768 numbers lent to
+-- collections
 unfoldable pub outputOf : List ℕ → List ℕ
 outputOf bytes = scriptText 0 (linesOf bytes) emptyGrid (replicate 768 0)
 

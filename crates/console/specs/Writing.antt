@@ -1,4 +1,5 @@
--- WHAT MAKING ROOM PROMISES: what waits is waiting still, all of it, or was handed over, all of it. No byte of output is dropped.
+-- WHAT MAKING ROOM PROMISES: what waits is waiting still, all of it, or was handed over, all of it. No byte of output
+-- is dropped.
 use mathlib.Core.Path.{_≡_}
 use Prim.Native.Nat.{ℕ, _≤_}
 use Rattle.console.specs.declared.output.Output.{Output}

@@ -1,4 +1,5 @@
-// The script program (document 01): reads calls from standard input, a line for each, and prints a line for each answer.
+// The script program (document 01): reads calls from standard input, a line for each, and prints a line for each
+// answer.
 use console::run::run_script;
 use libc::STDERR_FILENO;
 use libc::STDIN_FILENO;

@@ -1,4 +1,5 @@
--- fetch_block answers what the read gave: in its last return at least one byte, by cases on the sign of what `read` answered.
+-- fetch_block answers what the read gave: in its last return at least one byte, by cases on the sign of what `read`
+-- answered.
 use mathlib.Core.Path.{_≡_, refl, sym}
 use mathlib.Core.Bool.{true, false, false≢true}
 use Prim.Native.Nat.{ℕ, _<_}
@@ -18,7 +19,8 @@ use Rattle.console.proofs.input.fetch_block.Lts as lts
 use Rattle.io.proofs.count.Reads as count-reads
 use Rattle.libc.proofs.read.Reads as read-reads
 
-some-read : (got : ℤ) (n m r : ℕ) → Moved n got → m ≡ n → r ≡ clamped got m → ltZ got (pos 0) ≡ false → (ofZ w64 got ≡ 0 → ⊥) → 0 < r
+some-read : (got : ℤ) (n m r : ℕ) → Moved n got → m ≡ n → r ≡ clamped got m → ltZ got (pos 0) ≡ false
+    → (ofZ w64 got ≡ 0 → ⊥) → 0 < r
 some-read (pos k) n m r g l e a b = let z : k ≡ 0 → ⊥ = b in omega (arith, z)
 some-read (negsuc k) n m r g l e a b = absurd (false≢true (sym a))
 
@@ -61,7 +63,8 @@ returns-3 c =
       start = refl;
       same = refl;
       within = search needs;
-      gives = some-read got _ _ _ (at-read .read .ensures) (at-block .block .given) (rw (toZ-ofZ w64 got fits) at (c .count .ensures .1))
+      gives = some-read got _ _ _ (at-read .read .ensures) (at-block .block .given)
+          (rw (toZ-ofZ w64 got fits) at (c .count .ensures .1))
           (rw (toZ-ofZ w64 got fits) at (c .before .before .before .if1 .left)) (c .before .before .if2 .left);
     }
 

@@ -1,4 +1,5 @@
--- next_line makes room and reads a line: each return is a law of Ahead.antt, from what make_room, fetch_line and the tests of its answer ensure.
+-- next_line makes room and reads a line: each return is a law of Ahead.antt, from what make_room, fetch_line and the
+-- tests of its answer ensure.
 use borrow.Author.Needs.{needs}
 use Rattle.console.proofs.Ahead.{next-stopped, next-read}
 use Rattle.console.proofs.progress.next_line.Statement.{statement}

@@ -1,5 +1,6 @@
--- run_script ends, by its line numbers, stays in its tables and buffers, and keeps `Ran`: the invariant has the lengths, what the block has,
--- what waits, and how the output so far stands (`Before`, of Sofar.antt). Each step of the loop is a law of Sofar.antt.
+-- run_script ends, by its line numbers, stays in its tables and buffers, and keeps `Ran`: the invariant has the
+-- lengths, what the block has, what waits, and how the output so far stands (`Before`, of Sofar.antt). Each step of the
+-- loop is a law of Sofar.antt.
 use mathlib.Core.Path.{refl, sym}
 use mathlib.Core.Bool.{Bool}
 use mathlib.Core.Logic.{⊎-elim}
@@ -12,19 +13,22 @@ use Rattle.tables.specs.Grid.{grid}
 use Rattle.grid.specs.Run.{gridOf}
 use Rattle.console.specs.Run.{Ran}
 use Rattle.console.proofs.Sizes.{Sizes, started, next-asked, answer-asked, still, next-fits, count-down, waits}
-use Rattle.console.proofs.Sofar.{Before, reset-empty, sofar-start, sofar-next, sofar-turn, ran-before, ran-behind}
+use Rattle.console.proofs.Sofar.{Before, reset-empty, sofar-start}
+use Rattle.console.proofs.Sofar.{sofar-next, sofar-turn, ran-before, ran-behind}
 use Rattle.console.proofs.run.run_script.Statement.{statement}
 use Rattle.console.proofs.run.run_script.Tie as tie
 
 abbrev Inv-loop : tie.InvT-loop
-Inv-loop input output words₀ times₀ list₀ block₀ line₀ out₀ updaters₀ queries₀ number₀ p₀ words times list block line out updaters queries number p =
+Inv-loop input output words₀ times₀ list₀ block₀ line₀ out₀ updaters₀ queries₀ number₀ p₀
+    words times list block line out updaters queries number p =
     Sizes words times list block line out
     × (p .filled ≤ 4096)
     × (p .waiting ≤ 16384)
     × Before number block p out (gridOf (grid words times) updaters queries) list
 
 abbrev μ-loop : tie.MeasureT-loop
-μ-loop input output words₀ times₀ list₀ block₀ line₀ out₀ updaters₀ queries₀ number₀ p₀ words times list block line out updaters queries number p =
+μ-loop input output words₀ times₀ list₀ block₀ line₀ out₀ updaters₀ queries₀ number₀ p₀
+    words times list block line out updaters queries number p =
     18446744073709551615 - number
 
 idle-updaters-requires : tie.Need-idle-updaters-requires Inv-loop μ-loop
@@ -112,12 +116,14 @@ slice-aggregate-answer-line-3 c =
 
 slice-aggregate-answer-line-4 : tie.Need-slice-aggregate-answer-line-4 Inv-loop μ-loop
 slice-aggregate-answer-line-4 c =
-    let at-loop = c .before .before .before .before .before .before .before .before .before .before .before .before .before in
+    let at-line3 = c .before .before .before in
+    let at-loop = at-line3 .before .before .before .before .before .before .before .before .before .before in
     at-loop .loop .inv .0 .words
 
 slice-aggregate-answer-line-5 : tie.Need-slice-aggregate-answer-line-5 Inv-loop μ-loop
 slice-aggregate-answer-line-5 c =
-    let at-loop = c .before .before .before .before .before .before .before .before .before .before .before .before .before .before in
+    let at-line3 = c .before .before .before .before in
+    let at-loop = at-line3 .before .before .before .before .before .before .before .before .before .before in
     at-loop .loop .inv .0 .times
 
 answer-line-requires : tie.Need-answer-line-requires Inv-loop μ-loop
@@ -128,7 +134,8 @@ answer-line-requires c κs =
 
 loop-less : tie.Need-loop-less Inv-loop μ-loop
 loop-less c =
-    let at-loop-test = c .before .before .before .before .before .before .before .before .before .before .before .before .before .before .before .before .before .before .before .before in
+    let at-answer-line = c .before .before .before .before .before .before in
+    let at-loop-test = at-answer-line .before .before .before .before .before .before .before .before .before .before .before .before .before .before in
     let at-loop = at-loop-test .before in
     count-down (at-loop .loop .number) (at-loop-test .loop-test .taken)
 
@@ -155,7 +162,8 @@ loop-again c =
       },
       still (at-next-line .next-line .ensures .filled) (at-block2 .block2 .given),
       still (at-answer-line .answer-line .ensures .fits) (sym (at-loop .loop .inv .0 .out)),
-      sofar-turn _ _ (at-next-line .next-line .result) (sofar-next (at-loop .loop .inv .3) (at-next-line .next-line .ensures))
+      sofar-turn _ _ (at-next-line .next-line .result)
+          (sofar-next (at-loop .loop .inv .3) (at-next-line .next-line .ensures))
           (not-false _ (at-if1 .if1 .left)) (at-answer-line .answer-line .ensures),
     )
 
@@ -168,7 +176,8 @@ left-waiting c =
     (c .loop-test .came)
 
 -- what the run promises then
-left-ran : (c : tie.Left-loop Inv-loop μ-loop) (reads writes : Bool) → Ran (record { reads = reads; writes = writes; whole = c .loop-test .p .last })
+left-ran : (c : tie.Left-loop Inv-loop μ-loop) (reads writes : Bool)
+    → Ran (record { reads = reads; writes = writes; whole = c .loop-test .p .last })
 left-ran c reads writes =
     ⊎-elim
     (λ w. ran-before _ _ (c .before .loop .inv .3) (w .1))

@@ -1,4 +1,5 @@
--- answer_line makes a `Turn`: what line_step and print_step ensure are its two parts. Words and stamps keep their lengths, since line_step keeps them.
+-- answer_line makes a `Turn`: what line_step and print_step ensure are its two parts. Words and stamps keep their
+-- lengths, since line_step keeps them.
 use Rattle.console.proofs.Turns.{print-asked, turn-made}
 use borrow.Author.Needs.{needs}
 use Rattle.console.proofs.turn.answer_line.Statement.{statement}
