@@ -33,7 +33,7 @@ use words::INDEX;
 use words::LOCKS;
 
 // Whether an object may be reported, whose search ended there: it is known, or fewer than 256 are.
-pub fn has_room(words: &[u32], s: Search) -> bool
+fn has_room(words: &[u32], s: Search) -> bool
     requires { ⌜ length (now words) ≡ WORDS ⌝ }
     ensures { λ r. ⌜ ((ts : List ℤ) → hasRoom s (grid (old words) ts .index .oid) ≡ r) ⌝ }
 {
@@ -44,7 +44,7 @@ pub fn has_room(words: &[u32], s: Search) -> bool
 }
 
 // Enters an object where its search ended; leaves a known one as it is.
-pub fn enter_there(words: &mut [u32], s: Search, oid: u32) -> Change
+fn enter_there(words: &mut [u32], s: Search, oid: u32) -> Change
     requires { ⌜ (length (now words) ≡ WORDS) × ((ts : List ℤ) → search (grid (now words) ts .index .oid) oid ≡ s) ⌝ }
     ensures { λ r. ⌜ OnWords words (ChangesIn withIndex (λ t. enter (t .index) oid) r) ⌝ }
 {
