@@ -1,3 +1,4 @@
+pub mod Meet
 pub mod Moves
 pub mod Numbers
 pub mod Tests
