@@ -1,6 +1,7 @@
 pub mod Answer
 pub mod Lent
 pub mod Lists
+pub mod Numbers
 pub mod Outcome
 pub mod Promise
 pub mod Spot

@@ -3,6 +3,7 @@
 use mathlib.Core.Bool.{Bool, true, false}
 use mathlib.Core.List.{List, [], _∷_}
 use Prim.Native.Nat.{ℕ}
+use Rattle.base.specs.Numbers.{DONE, BLOCKED, CORRUPT}
 
 -- An answer in document 01's terms: its number, and the values that come with it.
 pub record Told : Type 0 where
@@ -41,9 +42,9 @@ andThen (done a) k = k a
 
 -- What is told of an outcome: document 01's number, and the values that f finds in what came of it.
 unfoldable pub tells : {A : Type 0} → (A → List ℕ) → Outcome A → Told
-tells f corrupt = says 12 []
-tells f blocked = says 20 []
-tells f (done a) = says 0 (f a)
+tells f corrupt = says CORRUPT []
+tells f blocked = says BLOCKED []
+tells f (done a) = says DONE (f a)
 
 -- The tables afterwards: those at the start, t, unless something came of it.
 unfoldable pub leaves : {A B : Type 0} → (A → B) → B → Outcome A → B

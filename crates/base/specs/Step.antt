@@ -1,6 +1,7 @@
 -- How one step of a lane ends: document 01's number, what the lane is at next, and the tables.
 use mathlib.Core.Option.{Option, none, some}
 use Prim.Native.Nat.{ℕ}
+use Rattle.base.specs.Numbers.{DONE, BLOCKED, CORRUPT}
 use Rattle.base.specs.Outcome.{Outcome, corrupt, blocked, done}
 
 -- what is told of a step: its number, and what the lane is at next, none where it stays as it is
@@ -22,8 +23,8 @@ stepOf n s t = record { number = n; next = s; tables = t }
 
 -- broken tables: 12; held: 20; else the step's own number
 unfoldable pub turnTells : {S B : Type 0} → Outcome (Step S B) → Said S
-turnTells corrupt = said 12 none
-turnTells blocked = said 20 none
+turnTells corrupt = said CORRUPT none
+turnTells blocked = said BLOCKED none
 turnTells (done m) = said (m .number) (some (m .next))
 
 -- the tables afterwards: those at the start, t, unless it moved
@@ -38,9 +39,9 @@ turned t o = (turnTells o, turnLeaves t o)
 
 -- what is told of an outcome that is what a lane does next: broken tables 12, held 20, else 0
 unfoldable pub told : {S : Type 0} → Outcome S → Said S
-told corrupt = said 12 none
-told blocked = said 20 none
-told (done s) = said 0 (some s)
+told corrupt = said CORRUPT none
+told blocked = said BLOCKED none
+told (done s) = said DONE (some s)
 
 -- a step over its own tables, as one over more
 unfoldable pub lift : {S A B : Type 0} → (A → B) → Outcome (Step S A) → Outcome (Step S B)

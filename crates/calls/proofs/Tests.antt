@@ -6,13 +6,8 @@ use Prim.Native.Nat.{ℕ}
 use Rattle.base.specs.Outcome.{Outcome, corrupt, blocked, done, pick}
 use Rattle.base.specs.Step.{Step, turnTells, turnLeaves}
 use Rattle.tables.specs.Tables.{Tables}
-use Rattle.calls.specs.Call.{Result, After, after, afterOf, unless, stepped, nextLanes}
+use Rattle.calls.specs.Call.{Result, After, after, afterOf, Same, unless, stepped, nextLanes}
 use Rattle.calls.proofs.Numbers.{numberOf}
-
--- nothing is changed
-pub record Same {L : Type 0} (t : Tables) (ls : L) (a : After L) : Type 0 where
-  pub tables : a .tables ≡ t
-  pub lanes : a .lanes ≡ ls
 
 module _ {L : Type 0} (t : Tables) (ls : L) where
   -- the number past one test of a call

@@ -4,6 +4,7 @@ use mathlib.Core.List.{List, [], _∷_}
 use Prim.Native.Nat.{ℕ}
 use lib.Dec.{eqb, ltb, leb}
 use lib.IntN.{ℤ, pos, negsuc}
+use Rattle.base.specs.Numbers.{BLOCKED, CORRUPT}
 use Rattle.base.specs.Outcome.{pick}
 
 -- a number and what it is given for
@@ -20,10 +21,10 @@ abbrev pub cause : ℕ → Bool → Cause
 cause n b = record { holds = b; number = n }
 
 abbrev pub broken : Bool → Cause
-broken b = cause 12 b
+broken b = cause CORRUPT b
 
 abbrev pub held : Bool → Cause
-held b = cause 20 b
+held b = cause BLOCKED b
 
 -- ---- ranges of stored numbers
 

@@ -6,6 +6,7 @@ ghost use Rattle.tables.specs.Promise.{OnGrid};
 use crate::admission::Admission;
 use crate::admission::admit;
 use crate::entries::write_entries;
+use base::DONE;
 use base::LIST_SIZE;
 use query::Query;
 use query::Scan;
@@ -62,7 +63,7 @@ pub fn collect(
             let mut after = queries;
             after[at] = idle(q);
             Collected {
-                number: 0,
+                number: DONE,
                 steps: q.steps,
                 filled: 3 * size,
                 queries: after,

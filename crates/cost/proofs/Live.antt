@@ -10,8 +10,8 @@ use native.Mathlib.Omega.{arith}
 use lib.Dec.{T}
 use lib.ListN.{length, length-append}
 use Rattle.base.specs.Lists.{In, Once, more, empty}
-use Rattle.layout.specs.Question.{walk, cellsTouched}
-use Rattle.layout.proofs.Walk.{Proper, Ascending, ends, climbs, walk-ascending, walk-length}
+use Rattle.layout.specs.Question.{walk, cellsTouched, Proper}
+use Rattle.layout.proofs.Walk.{Ascending, ends, climbs, walk-ascending, walk-length}
 use Rattle.grid.specs.Run.{Grid}
 use Rattle.base.specs.Sums.{bit}
 use Rattle.base.proofs.Sums.{bit-or}

@@ -8,6 +8,7 @@ use mathlib.Core.List.{List, [], _∷_, _++_, map}
 use Prim.Native.Nat.{ℕ, zero, suc, _+_, _*_, _≤_}
 use lib.Dec.{eqb}
 use lib.ListN.{length}
+use Rattle.base.specs.Numbers.{DONE, BLOCKED, FINISHED, QUERY-FINISHED}
 use Rattle.base.specs.Outcome.{pick}
 use Rattle.base.specs.Table.{at, upd}
 use Rattle.layout.specs.Question.{walk, cellsTouched}
@@ -70,7 +71,7 @@ settledDeed ks = record { begins = none; ends = none; asks = none; goes = none; 
 -- an update ends with the step that gives 22
 abbrev pub accepted : Call → ℕ → Deed
 accepted (startUpdate l k x y) n = deedOf (some (l, k)) none none none none
-accepted (stepUpdate l) n = deedOf none (pick (eqb n 22) (some l) none) none none none
+accepted (stepUpdate l) n = deedOf none (pick (eqb n FINISHED) (some l) none) none none none
 accepted (startQuery l u) n = deedOf none none (some (l, u)) none none
 accepted (stepQuery l) n = deedOf none none none (some (l, n)) none
 accepted (collect l m) n = deedOf none none none none (some l)
@@ -126,13 +127,13 @@ found s c = onlyIf (chainOf (s .first) (s .next) c) (λ l. record { cell = c; bu
 
 -- 22 if no cell and no rest remain, else 0
 abbrev pub ending : List ℕ → ℕ → ℕ
-ending cs r = pick (eqb (length cs + r) 0) 22 0
+ending cs r = pick (eqb (length cs + r) 0) FINISHED DONE
 
 -- a step: its answer, and the tally after it (with no cell and no rest the query is finished, and a step on it is refused)
 unfoldable pub tallyStep : Seen → List ℕ → ℕ → ℕ → ℕ × Tally
 tallyStep s cs (suc r) n = (ending cs r, tallyOf cs r (suc n))
-tallyStep s [] zero n = (9, tallyOf [] 0 n)
-tallyStep s (c ∷ cs) zero n = let f = found s c in let r = f .buckets + f .tuples in pick (eqb (at (s .locks) c) 0) (ending cs r, tallyOf cs r (suc n)) (20, tallyOf (c ∷ cs) 0 n)
+tallyStep s [] zero n = (QUERY-FINISHED, tallyOf [] 0 n)
+tallyStep s (c ∷ cs) zero n = let f = found s c in let r = f .buckets + f .tuples in pick (eqb (at (s .locks) c) 0) (ending cs r, tallyOf cs r (suc n)) (BLOCKED, tallyOf (c ∷ cs) 0 n)
 
 abbrev pub stepOf : Seen → Tally → ℕ × Tally
 stepOf s t = tallyStep s (t .cells) (t .rest) (t .count)
@@ -162,14 +163,14 @@ pub record Sweep : Type 0 where
 abbrev pub follow : Event → List Event → Sweep → Sweep
 follow e past s =
     let t = tally past (s .lane) in
-    let step : Bool = onlyIf (deed e .goes) (λ a. eqb (a .0) (s .lane) && not (eqb (a .1) 20)) false in
+    let step : Bool = onlyIf (deed e .goes) (λ a. eqb (a .0) (s .lane) && not (eqb (a .1) BLOCKED)) false in
     pick (s .over) s
     (record {
       lane = s .lane;
       question = s .question;
       steps = s .steps + bit step;
-      finished = onlyIf (deed e .goes) (λ a. eqb (a .0) (s .lane) && eqb (a .1) 22) false;
-      over = onlyIf (deed e .goes) (λ a. eqb (a .0) (s .lane) && eqb (a .1) 22) false;
+      finished = onlyIf (deed e .goes) (λ a. eqb (a .0) (s .lane) && eqb (a .1) FINISHED) false;
+      over = onlyIf (deed e .goes) (λ a. eqb (a .0) (s .lane) && eqb (a .1) FINISHED) false;
       entered = pick (step && eqb (t .rest) 0) (found (e .seen) (at (t .cells) 0) ∷ s .entered) (s .entered);
       updates = λ k. s .updates k + bit (onlyIf (deed e .begins) (λ b. eqb (b .1) k) false);
       objects = known (e ∷ past);
@@ -221,7 +222,7 @@ AtLocked s t = (t .rest ≡ 0) × ((c : ℕ) × (cs : List ℕ) × (t .cells ≡
 -- 1. An accepted step gives the tally's answer: 'blocked' exactly when it is to enter a locked cell.
 pub record StepFits (n : ℕ) (s : Seen) (t : Tally) : Type 0 where
   pub answer : n ≡ stepOf s t .0
-  pub blocked : (n ≡ 20 → AtLocked s t) × (AtLocked s t → n ≡ 20)
+  pub blocked : (n ≡ BLOCKED → AtLocked s t) × (AtLocked s t → n ≡ BLOCKED)
 
 -- 2. An accepted collection is from a query that has finished, the last one of its lane. It hands back the tally's count, which is the number of the query's accepted
 -- steps that were not blocked; and it is K and, for each of its cells, the buckets and tuples found at the step that entered it.

@@ -8,6 +8,7 @@ use mathlib.Core.Option.{Option, none, some}
 use mathlib.Core.List.{List, [], _∷_, _++_}
 use Prim.Native.Nat.{ℕ, zero, suc, _<_}
 use lib.Dec.{eqb}
+use Rattle.base.specs.Numbers.{FINISHED}
 use Rattle.base.specs.Outcome.{pick}
 use Rattle.layout.specs.declared.question.Question.{Question}
 use Rattle.calls.specs.Call.{acceptedNumber}
@@ -32,7 +33,7 @@ pub data Event : Type 0 where
 -- what a call and the number that it gives tell, if anything: an accepted start, or a step of an update that gives 22
 unfoldable pub eventOf : Call → ℕ → Option Event
 eventOf (startUpdate l k x y) n = pick (refused n) none (some (begins l (hit k (record { x = x; y = y }))))
-eventOf (stepUpdate l) n = pick (eqb n 22) (some (ends l)) none
+eventOf (stepUpdate l) n = pick (eqb n FINISHED) (some (ends l)) none
 eventOf (startQuery q u) n = pick (refused n) none (some (asks q u))
 eventOf (stepQuery q) n = none
 eventOf (collect q m) n = none

@@ -9,7 +9,9 @@ ghost use Rattle.tables.specs.Promise.{OnGrid};
 ghost use Rattle.grid.specs.Promise.{Resets};
 ghost use Rattle.words.specs.Map.{WORDS};
 ghost use Rattle.base.specs.Lent.{new};
+use base::CORRUPT;
 use base::Change;
+use base::DONE;
 use base::NO_BUCKET;
 use layout::place::NOWHERE;
 use pool::refill_pool;
@@ -61,7 +63,7 @@ pub fn reset(
 {
     if !right_words(words.len(), times.len()) {
         return Fresh {
-            number: 12,
+            number: CORRUPT,
             updaters,
             queries,
         };
@@ -71,7 +73,7 @@ pub fn reset(
     let updaters = idle_updaters();
     let queries = idle_queries();
     Fresh {
-        number: 0,
+        number: DONE,
         updaters,
         queries,
     }

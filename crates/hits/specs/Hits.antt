@@ -6,6 +6,7 @@ use mathlib.Core.List.{List, []}
 use Prim.Native.Nat.{ℕ, zero, suc, _+_, _*_}
 use lib.Dec.{eqb, ltb, leb}
 use lib.ListN.{set}
+use Rattle.base.specs.Numbers.{DONE, CORRUPT}
 use Rattle.base.specs.Outcome.{Told, says, Outcome, done, need, pick, one, ended}
 use Rattle.base.specs.Table.{at}
 use Rattle.words.specs.Map.{HIT-XS, HIT-YS}
@@ -43,8 +44,8 @@ listedValues (some i) = one i
 
 -- 0, and the entry if the object is listed
 abbrev pub listedSays : Listed → Told
-listedSays Missing = says 0 []
-listedSays (At i) = says 0 (one i)
+listedSays Missing = says DONE []
+listedSays (At i) = says DONE (one i)
 
 -- the lists, and the size of the query's own
 pub record Listing : Type 0 where
@@ -68,8 +69,8 @@ sizeOf d = one (d .size)
 
 -- broken tables, a full list too: 12; else 0 and the size of the list
 abbrev pub notedSays : Noted → Told
-notedSays Corrupt = says 12 []
-notedSays (Size n) = says 0 (one n)
+notedSays Corrupt = says CORRUPT []
+notedSays (Size n) = says DONE (one n)
 
 -- the promise of noting a tuple: r is the size of the list afterwards
 abbrev pub Notes : (Hits → Outcome Listing) → Noted → Hits → Hits → Type 0

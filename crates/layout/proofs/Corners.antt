@@ -10,16 +10,12 @@ use types.Run.{OneOf}
 use denote.Enum.Declared.{tagOf}
 use Rattle.base.specs.Outcome.{Told, says, pick}
 use Rattle.layout.specs.Place.{onGrid}
-use Rattle.layout.specs.Question.{corners, cornersOn, cornersSays, ordered}
+use Rattle.layout.specs.Question.{corners, cornersOn, cornersSays, ordered, Proper}
 use Rattle.layout.specs.declared.question.Corners.{Corners}
 use Rattle.layout.specs.declared.question.Corners.the-variants.{Accepted, OffGrid, Crossed}
 use Rattle.layout.specs.declared.question.Question.{Question}
 use Rattle.layout.proofs.Bools.{leb-iff, not-so}
 use Rattle.layout.proofs.question.Corners.{the-type}
-
--- the corners are accepted
-abbrev pub Proper : Question → Type 0
-Proper q = corners q ≡ says 0 []
 
 -- equal answers have equal numbers
 same-number : {s t : Told} → s ≡ t → s .number ≡ t .number

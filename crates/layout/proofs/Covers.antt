@@ -4,10 +4,10 @@ use mathlib.Core.Path.{_≡_}
 use mathlib.Core.Bool.{true, and-eq-true-iff}
 use Prim.Native.Nat.{ℕ, _/_, _%_, _≤_, _<_}
 use native.Mathlib.Omega.{arith}
-use Rattle.layout.specs.Question.{cornersOn, ordered, visited}
+use Rattle.layout.specs.Question.{cornersOn, ordered, visited, Proper}
 use Rattle.layout.specs.declared.question.Question.{Question}
 use Rattle.layout.proofs.Bools.{leb-iff}
-use Rattle.layout.proofs.Corners.{Proper, proper-iff, proper-facts}
+use Rattle.layout.proofs.Corners.{proper-iff, proper-facts}
 
 -- the cell's column and row lie between those of the corners' cells
 abbrev pub Covers : Question → ℕ → Type 0

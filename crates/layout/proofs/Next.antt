@@ -9,9 +9,9 @@ use borrow.Author.Tests.{eq-eqb, ne-eqb}
 use Rattle.base.specs.Outcome.{done, need, pick}
 use Rattle.base.proofs.Table.{at-or}
 use Rattle.layout.specs.Place.{cellOf}
-use Rattle.layout.specs.Question.{lastCell, next, rowBelow}
+use Rattle.layout.specs.Question.{lastCell, next, rowBelow, Proper}
 use Rattle.layout.specs.declared.question.Question.{Question}
-use Rattle.layout.proofs.Corners.{Proper, proper-facts}
+use Rattle.layout.proofs.Corners.{proper-facts}
 use Rattle.layout.proofs.Covers.{Covers, covers-visited}
 
 -- d is the least cell above c of those between the corners' cells

@@ -13,7 +13,7 @@ use lib.Dec.{eqb}
 use Rattle.base.specs.Outcome.{done, corrupt, need, pick}
 use Rattle.base.proofs.Table.{at-or, by-test, clash}
 use Rattle.layout.specs.Place.{onGrid, cellOf}
-use Rattle.layout.specs.Question.{inside, columns, rows, walk, cellsTouched, firstVisit, lastCell, visited, rowBelow, next}
+use Rattle.layout.specs.Question.{inside, columns, rows, walk, cellsTouched, firstVisit, lastCell, visited, rowBelow, next, Proper, Touched}
 use Rattle.layout.specs.declared.question.Question.{Question}
 use Rattle.layout.specs.declared.question.Visit.{Visit}
 use Rattle.layout.proofs.Bools.{leb-iff, need-done-iff}
@@ -22,12 +22,8 @@ use Rattle.layout.proofs.Covers.{Covers, covers-below, covers-visited, 
 use Rattle.layout.proofs.Next.{Follows, covers-last, last-covers, next-end, next-follows}
 use Rattle.layout.proofs.Order.{in-middle, last-largest, neighbours, once}
 use Rattle.layout.proofs.Rows.{rows-spot, spot-rows, rows-ascending, rows-length, rows-first}
-pub use Rattle.layout.proofs.Corners.{Proper, proper-facts, facts-proper}
+pub use Rattle.layout.proofs.Corners.{proper-facts, facts-proper}
 pub use Rattle.layout.proofs.Order.{In, Ascending, ends, climbs, times}
-
--- some point of the rectangle lies in the cell
-abbrev pub Touched : Question → ℕ → Type 0
-Touched q c = (x : ℕ) × (y : ℕ) × (inside q x y ≡ true) × (cellOf x y ≡ c)
 
 module _ (q : Question) where
   -- ---- the cells of the walk

@@ -1,10 +1,12 @@
 -- The question of a range query, and the walk of cells for it (document 01: the walk of a sweep).
 -- Crates above use the laws of proofs/Walk.antt and do not unfold `inside`, `visited`, `next` and `walk`.
-use mathlib.Core.Bool.{Bool, _&&_}
+use mathlib.Core.Path.{_≡_}
+use mathlib.Core.Bool.{Bool, true, _&&_}
 use mathlib.Core.Option.{Option, none, some}
 use mathlib.Core.List.{List, [], _++_}
 use Prim.Native.Nat.{ℕ, zero, suc, _+_, _-_, _*_, _/_, _%_}
 use lib.Dec.{eqb, ltb, leb}
+use Rattle.base.specs.Numbers.{DONE, OFF-GRID, CROSSED-CORNERS, CORRUPT}
 use Rattle.base.specs.Lists.{numbersFrom}
 use Rattle.base.specs.Outcome.{Told, says, Outcome, done, need, pick, one}
 use Rattle.layout.specs.Place.{onGrid, cellOf}
@@ -17,9 +19,9 @@ use Rattle.layout.specs.declared.question.NextCell.the-variants.{Corrupt
 
 -- off the deck: 5; crossed corners: 6; else 0
 abbrev pub cornersSays : Corners → Told
-cornersSays Accepted = says 0 []
-cornersSays OffGrid = says 5 []
-cornersSays Crossed = says 6 []
+cornersSays Accepted = says DONE []
+cornersSays OffGrid = says OFF-GRID []
+cornersSays Crossed = says CROSSED-CORNERS []
 
 -- both corners on the grid
 unfoldable pub cornersOn : Question → Bool
@@ -30,11 +32,19 @@ unfoldable pub ordered : Question → Bool
 ordered q = leb (q .x0) (q .x1) && leb (q .y0) (q .y1)
 
 unfoldable pub corners : Question → Told
-corners q = pick (cornersOn q) (pick (ordered q) (says 0 []) (says 6 [])) (says 5 [])
+corners q = pick (cornersOn q) (pick (ordered q) (says DONE []) (says CROSSED-CORNERS [])) (says OFF-GRID [])
+
+-- the corners are accepted
+abbrev pub Proper : Question → Type 0
+Proper q = corners q ≡ says DONE []
 
 -- a point of the rectangle, edges included
 unfoldable pub inside : Question → ℕ → ℕ → Bool
 inside q x y = leb (q .x0) x && leb x (q .x1) && leb (q .y0) y && leb y (q .y1)
+
+-- a cell that the rectangle touches: some point of the rectangle lies in it
+abbrev pub Touched : Question → ℕ → Type 0
+Touched q c = (x : ℕ) × (y : ℕ) × (inside q x y ≡ true) × (cellOf x y ≡ c)
 
 -- ---- the cells that the rectangle touches
 
@@ -87,6 +97,6 @@ visitValues (some v) = one (v .cell)
 
 -- broken tables: 12; no further cell: 0 and no value; else 0 and the cell
 abbrev pub nextCellSays : NextCell → Told
-nextCellSays Corrupt = says 12 []
-nextCellSays End = says 0 []
-nextCellSays (Cell v) = says 0 (one (v .cell))
+nextCellSays Corrupt = says CORRUPT []
+nextCellSays End = says DONE []
+nextCellSays (Cell v) = says DONE (one (v .cell))

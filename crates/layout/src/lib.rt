@@ -1,4 +1,3 @@
-// The geometry of the grid and the numbers of document 01. No table.
-pub mod answer;
+// The geometry of the grid. No table.
 pub mod place;
 pub mod question;

@@ -6,6 +6,7 @@ use Prim.Native.Nat.{ℕ, _+_, _-_}
 use lib.Dec.{eqb, ltb, leb}
 use lib.ListN.{length, set}
 use lib.ListN as list
+use Rattle.base.specs.Numbers.{DONE, CORRUPT}
 use Rattle.base.specs.Lists.{In, numbersFrom}
 use Rattle.base.specs.Outcome.{Told, says, Outcome, done, need, one}
 use Rattle.base.specs.Table.{at}
@@ -19,8 +20,8 @@ pub record Took : Type 0 where
 
 -- broken tables, a dry store among them: 12; else 0 and the bucket
 abbrev pub takenSays : Taken → Told
-takenSays Corrupt = says 12 []
-takenSays (Bucket b) = says 0 (one b)
+takenSays Corrupt = says CORRUPT []
+takenSays (Bucket b) = says DONE (one b)
 
 unfoldable pub height : List ℕ → ℕ
 height pool = at pool 512

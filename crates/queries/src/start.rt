@@ -4,7 +4,14 @@ ghost use Rattle.tables.specs.Promise.{OnGrid};
 ghost use Rattle.queries.specs.Promise.{Starts};
 use crate::lanes::Swept;
 use crate::lanes::is_idle;
+use base::CLOCK_EXHAUSTED;
 use base::CLOCK_SPENT;
+use base::CORRUPT;
+use base::CROSSED_CORNERS;
+use base::DONE;
+use base::LANE_TAKEN;
+use base::NO_SUCH_LANE;
+use base::OFF_GRID;
 use base::QUERY_COUNT;
 use layout::question::Corners;
 use layout::question::Question;
@@ -30,33 +37,48 @@ pub fn query_start(
 {
     if !right_words(words.len(), times.len()) {
         return Swept {
-            number: 12,
+            number: CORRUPT,
             queries,
         };
     }
     if lane >= QUERY_COUNT {
-        return Swept { number: 1, queries };
+        return Swept {
+            number: NO_SUCH_LANE,
+            queries,
+        };
     }
     let at = lane as usize;
     let old = queries[at];
     let s = old.stage;
     if !is_idle(s) {
-        return Swept { number: 2, queries };
+        return Swept {
+            number: LANE_TAKEN,
+            queries,
+        };
     }
     let question = Question { x0, y0, x1, y1 };
     let corners = check_corners(question);
     match corners {
         Corners::OffGrid => {
-            return Swept { number: 5, queries };
+            return Swept {
+                number: OFF_GRID,
+                queries,
+            };
         }
         Corners::Crossed => {
-            return Swept { number: 6, queries };
+            return Swept {
+                number: CROSSED_CORNERS,
+                queries,
+            };
         }
         Corners::Accepted => {}
     }
     let clock = words[CLOCK];
     if clock >= CLOCK_SPENT {
-        return Swept { number: 8, queries };
+        return Swept {
+            number: CLOCK_EXHAUSTED,
+            queries,
+        };
     }
     let stamp = clock + 1;
     let visit = first_cell(question);
@@ -70,7 +92,7 @@ pub fn query_start(
     };
     words[CLOCK] = stamp;
     Swept {
-        number: 0,
+        number: DONE,
         queries: after,
     }
 }

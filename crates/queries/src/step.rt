@@ -7,7 +7,12 @@ use crate::lanes::is_finished;
 use crate::lanes::is_idle;
 use crate::lanes::number_of;
 use crate::scanning::scan_step;
+use base::BLOCKED;
+use base::CORRUPT;
+use base::LANE_IDLE;
+use base::NO_SUCH_LANE;
 use base::QUERY_COUNT;
+use base::QUERY_FINISHED;
 use query::Progress;
 use query::Query;
 use tables::lengths::right_words;
@@ -19,11 +24,11 @@ fn end_step(queries: [Query; 4], at: usize, progress: Progress) -> Swept
 {
     match progress {
         Progress::Corrupt => Swept {
-            number: 12,
+            number: CORRUPT,
             queries,
         },
         Progress::Blocked => Swept {
-            number: 20,
+            number: BLOCKED,
             queries,
         },
         Progress::To(q) => {
@@ -45,21 +50,30 @@ pub fn query_step(queries: [Query; 4], lane: u32, words: &mut [u32], times: &[i3
 {
     if !right_words(words.len(), times.len()) {
         return Swept {
-            number: 12,
+            number: CORRUPT,
             queries,
         };
     }
     if lane >= QUERY_COUNT {
-        return Swept { number: 1, queries };
+        return Swept {
+            number: NO_SUCH_LANE,
+            queries,
+        };
     }
     let at = lane as usize;
     let q = queries[at];
     let s = q.stage;
     if is_idle(s) {
-        return Swept { number: 3, queries };
+        return Swept {
+            number: LANE_IDLE,
+            queries,
+        };
     }
     if is_finished(s) {
-        return Swept { number: 9, queries };
+        return Swept {
+            number: QUERY_FINISHED,
+            queries,
+        };
     }
     let progress = scan_step(words, times, lane, q);
     end_step(queries, at, progress)

@@ -69,15 +69,15 @@ moved-dup {p} {q} {r} {e} (movedPrev w) x = dup-extra (e .cur) (some p) r false 
 module _ {k m : ℕ} {p : Place} {e em : Entry} {g gm : Pos} where
   -- while the count is to be lowered, the second copy is in the first bucket
   lower-own : {q : Place} (t : Top) → Lowering k p m e g em gm t → Extra g q → t .bucket ≡ q .bucket
-  lower-own t (Lowering.same x y) z = dup-extra (e .cur) none (pl (p .cell) (t .bucket) (t .n - 1)) false y z
+  lower-own t (Lowering.same x y _) z = dup-extra (e .cur) none (pl (p .cell) (t .bucket) (t .n - 1)) false y z
   lower-own t (Lowering.other x y v) z = absurd (none-extra (e .cur) none false y z)
 
   lower-moved : {q : Place} (t : Top) → m ≢ k → Lowering k p m e g em gm t → Extra gm q → t .bucket ≡ q .bucket
-  lower-moved t n (Lowering.same x y) z = absurd (n x)
+  lower-moved t n (Lowering.same x y _) z = absurd (n x)
   lower-moved t n (Lowering.other x y v) z = moved-dup v z
 
   lower-former : (t : Top) → Lowering k p m e g em gm t → g .prev ≡ none
-  lower-former t (Lowering.same x y) = rw y
+  lower-former t (Lowering.same x y _) = rw y
   lower-former t (Lowering.other x y v) = rw y
 
   -- then there is none

@@ -5,6 +5,7 @@ use mathlib.Core.Logic.{_≢_, _⊎_}
 use mathlib.Core.Option.{some}
 use mathlib.Core.List.{List, [], _∷_}
 use Prim.Native.Nat.{ℕ, _<_}
+use Rattle.base.specs.Numbers.{DONE}
 use Rattle.base.specs.Lists.{In}
 use Rattle.base.specs.Table.{at}
 use Rattle.cells.specs.Walk.{chainOf}
@@ -96,5 +97,5 @@ pub data Room (g g′ : Grid) (c : ℕ) : Type 0 where
 -- and makes room so in the cell where its object is reported.
 abbrev pub HandedOutFree : Grid → Type 0
 HandedOutFree g =
-    (l : ℕ) → l < 8 → updater g l .stage ≡ MakeRoom → (call (stepUpdate l) g .0 .number ≡ 0)
+    (l : ℕ) → l < 8 → updater g l .stage ≡ MakeRoom → (call (stepUpdate l) g .0 .number ≡ DONE)
     × Room g (call (stepUpdate l) g .1) (cellOf (updater g l .x) (updater g l .y))

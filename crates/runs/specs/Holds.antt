@@ -2,6 +2,7 @@
 use mathlib.Core.Path.{_≡_}
 use mathlib.Core.Logic.{_≢_}
 use Prim.Native.Nat.{ℕ, _+_, _<_}
+use Rattle.base.specs.Numbers.{CORRUPT}
 use Rattle.pool.specs.Pool.{size}
 use Rattle.query.specs.declared.Scan.the-variants.{Idle}
 use Rattle.grid.specs.Run.{Grid, Call, call}
@@ -14,7 +15,7 @@ use Rattle.runs.specs.Reached.{Reached, InTheirCells}
 use Rattle.runs.specs.Sweeps.{query, ListFits, ReadersFit}
 
 pub record Holds (g : Grid) : Type 0 where
-  pub never-12 : (c : Call) → call c g .0 .number ≢ 12
+  pub never-12 : (c : Call) → call c g .0 .number ≢ CORRUPT
   pub clock : ClockFits g
   pub pool-never-dry : NeverDry g
   pub locks : LocksOwned g

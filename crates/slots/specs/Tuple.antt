@@ -7,6 +7,7 @@ use lib.IntN.{ℤ, pos}
 use lib.ListN.{getD, set}
 use Rattle.words.specs.Map.{TUPLE-XS, TUPLE-YS}
 use Rattle.words.specs.Part.{part}
+use Rattle.base.specs.Numbers.{DONE, CORRUPT}
 use Rattle.base.specs.Outcome.{Told, says, Outcome, corrupt, done, need, one}
 use Rattle.base.specs.Table.{at}
 use Rattle.slots.specs.Stamp.{stampOf, current, deleted, stampRange}
@@ -85,8 +86,8 @@ seenValues t = t .oid ∷ t .x ∷ t .y ∷ bit (t .deleted) ∷ t .time ∷ []
 
 -- broken tables: 12; else 0 and object, x, y, 1 if deleted, the stamp's magnitude
 abbrev pub tupleReadSays : TupleRead → Told
-tupleReadSays Corrupt = says 12 []
-tupleReadSays (At t) = says 0 (seenValues t)
+tupleReadSays Corrupt = says CORRUPT []
+tupleReadSays (At t) = says DONE (seenValues t)
 
 -- What a query with stamp t may list: a tuple that is current, or was deleted with a stamp above t.
 unfoldable pub seenBy : ℕ → Seen → Bool
@@ -106,6 +107,6 @@ signValues d = one (bit d)
 
 -- broken tables: 12; else 0, and 1 if the tuple is deleted
 abbrev pub signSays : Sign → Told
-signSays SignCorrupt = says 12 []
-signSays SignCurrent = says 0 (one 0)
-signSays SignDeleted = says 0 (one 1)
+signSays SignCorrupt = says CORRUPT []
+signSays SignCurrent = says DONE (one 0)
+signSays SignDeleted = says DONE (one 1)

@@ -4,6 +4,7 @@ use mathlib.Core.List.{List}
 use mathlib.Core.Option.{none, some}
 use Prim.Native.Nat.{ℕ, _+_}
 use lib.Dec.{ltb}
+use Rattle.base.specs.Numbers.{DONE, BLOCKED, RESTARTED, FINISHED, CORRUPT}
 use Rattle.base.specs.Outcome.{Outcome, corrupt, blocked, done, need, andThen}
 use Rattle.base.specs.Step.{Said, said, Step, stepOf}
 use Rattle.base.specs.declared.Attempt.{Attempt}
@@ -20,11 +21,11 @@ use Rattle.stage.specs.declared.Turn.the-variants.{Corrupt, Blocked, Adv
 
 -- broken tables: 12; held: 20; moved on: 0 and the next stage; went back: 21, to stage 1; finished: 22, idle
 abbrev pub turnSays : Turn → Said Stage
-turnSays Corrupt = said 12 none
-turnSays Blocked = said 20 none
-turnSays (Advanced s) = said 0 (some s)
-turnSays Restarted = said 21 (some TakeObject)
-turnSays Finished = said 22 (some Idle)
+turnSays Corrupt = said CORRUPT none
+turnSays Blocked = said BLOCKED none
+turnSays (Advanced s) = said DONE (some s)
+turnSays Restarted = said RESTARTED (some TakeObject)
+turnSays Finished = said FINISHED (some Idle)
 
 -- the end of a step that makes one change and goes on to a stage: as the change ended
 abbrev pub turnAfter : Change → Stage → Turn
@@ -43,15 +44,15 @@ Move B = Step Stage B
 
 -- moved on to a stage
 abbrev pub advance : {B : Type 0} → Stage → B → Outcome (Move B)
-advance s t = done (stepOf 0 s t)
+advance s t = done (stepOf DONE s t)
 
 -- went back to the first
 abbrev pub restart : {B : Type 0} → B → Outcome (Move B)
-restart t = done (stepOf 21 TakeObject t)
+restart t = done (stepOf RESTARTED TakeObject t)
 
 -- finished
 abbrev pub finish : {B : Type 0} → B → Outcome (Move B)
-finish t = done (stepOf 22 Idle t)
+finish t = done (stepOf FINISHED Idle t)
 
 -- go on at the entry of an object; a missing object is corrupt
 unfoldable pub atEntry : {A : Type 0} → Search → (ℕ → Outcome A) → Outcome A

@@ -110,7 +110,7 @@ pub data Moved (p : Place) (e : Entry) (g : Pos) (d : Option Place) : Type 0 whe
   movedPrev : g ≡ mk (e .cur) (some p) none d false → Moved p e g d
 
 pub data Lowering (k : ℕ) (p : Place) (m : ℕ) (e : Entry) (g : Pos) (em : Entry) (gm : Pos) (t : Top) : Type 0 where
-  same : m ≡ k → g ≡ mk (e .cur) none none (some (pl (p .cell) (t .bucket) (t .n - 1))) false → Lowering k p m e g em gm t
+  same : m ≡ k → g ≡ mk (e .cur) none none (some (pl (p .cell) (t .bucket) (t .n - 1))) false → e .cur ≢ none → Lowering k p m e g em gm t
   other : m ≢ k → g ≡ mk (e .cur) none none none false → Moved p em gm (some (pl (p .cell) (t .bucket) (t .n - 1))) → Lowering k p m e g em gm t
 
 pub data Erasing (k : ℕ) (p : Place) (m : ℕ) (e : Entry) (g : Pos) (em : Entry) (gm : Pos) : Type 0 where

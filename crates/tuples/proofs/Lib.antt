@@ -1,10 +1,12 @@
 pub mod Ahead
 pub mod Atrest
+pub mod Bound
 pub mod Cells
 pub mod Common
 pub mod Dry
 pub mod Effect
 pub mod Facts
+pub mod Follow
 pub mod Fresh
 pub mod Inv
 pub mod Local

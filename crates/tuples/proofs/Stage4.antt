@@ -199,7 +199,7 @@ module _ {O : StoreOps} {S : Store O} {g : Ghost} {d : St} (I : Inv S g d) (l : 
                   (record { curs = F .curs; news = λ r z. clash (cc); prevs = λ r z _. clash (cc); unflagged = λ r z _. clash (cc); far = λ r r′ z z′. clash (cc); pair = λ r z. clash (cc) })) .fit j);
             })
             (λ j n₁ n₂. sym (upd-other (g .gh) k g₁ j n₁))
-            (Lowering.same e (rw (upd-same (g .gh) k g₁, ← pq))),
+            (Lowering.same e (rw (upd-same (g .gh) k g₁, ← pq)) (F .pair p (h .prev))),
         effect h (upd (g .gh) k g₁) (λ j κ mn r h₁ z o. at-or j k
             (λ y. main-or κ mn
             (λ x. inr (goes-same (d .clock) j κ mn r h₁ (let z′ : g .gh k .cur ≡ some r = rw (y, x) at z in let z″ : d .ent k .cur ≡ some r = rw (h .gk) at z′ in rw (y, x, upd-same (g .gh) k g₁) z″) o (told-eq (d .clock) (same _ _))))

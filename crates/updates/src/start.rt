@@ -15,9 +15,17 @@ ghost use Rattle.words.specs.Map.{WORDS};
 ghost use Rattle.base.specs.Lent.{old};
 use crate::lanes::Stepped;
 use crate::lanes::is_idle;
+use base::CLOCK_EXHAUSTED;
 use base::CLOCK_SPENT;
+use base::CORRUPT;
 use base::Change;
+use base::DONE;
+use base::GRID_FULL;
+use base::LANE_TAKEN;
 use base::MOST_OBJECTS;
+use base::NO_OBJECT;
+use base::NO_SUCH_LANE;
+use base::OFF_GRID;
 use base::UPDATER_COUNT;
 use index::search::Search;
 use index::search::count_known;
@@ -65,13 +73,13 @@ pub fn update_start(
 {
     if !right_words(words.len(), times.len()) {
         return Stepped {
-            number: 12,
+            number: CORRUPT,
             updaters,
         };
     }
     if lane >= UPDATER_COUNT {
         return Stepped {
-            number: 1,
+            number: NO_SUCH_LANE,
             updaters,
         };
     }
@@ -80,39 +88,39 @@ pub fn update_start(
     let s = u.stage;
     if !is_idle(s) {
         return Stepped {
-            number: 2,
+            number: LANE_TAKEN,
             updaters,
         };
     }
     if oid == 0 {
         return Stepped {
-            number: 4,
+            number: NO_OBJECT,
             updaters,
         };
     }
     if !on_grid(x, y) {
         return Stepped {
-            number: 5,
+            number: OFF_GRID,
             updaters,
         };
     }
     let place = seek_object(words, oid);
     if !has_room(words, place) {
         return Stepped {
-            number: 7,
+            number: GRID_FULL,
             updaters,
         };
     }
     if words[CLOCK] >= CLOCK_SPENT {
         return Stepped {
-            number: 8,
+            number: CLOCK_EXHAUSTED,
             updaters,
         };
     }
     let entered = enter_there(words, place, oid);
     let Change::Done = entered else {
         return Stepped {
-            number: 12,
+            number: CORRUPT,
             updaters,
         };
     };
@@ -124,7 +132,7 @@ pub fn update_start(
         stage: Stage::TakeObject,
     };
     Stepped {
-        number: 0,
+        number: DONE,
         updaters: next,
     }
 }

@@ -6,6 +6,13 @@ ghost use Rattle.updates.specs.Promise.{EndsTurn, Steps};
 ghost use Rattle.tables.specs.Promise.{OnGrid};
 use crate::lanes::Stepped;
 use crate::lanes::is_idle;
+use base::BLOCKED;
+use base::CORRUPT;
+use base::DONE;
+use base::FINISHED;
+use base::LANE_IDLE;
+use base::NO_SUCH_LANE;
+use base::RESTARTED;
 use base::UPDATER_COUNT;
 use stage::Stage;
 use stage::Turn;
@@ -39,16 +46,16 @@ fn end_step(updaters: [Updater; 8], at: usize, turn: Turn) -> Stepped
 {
     match turn {
         Turn::Corrupt => Stepped {
-            number: 12,
+            number: CORRUPT,
             updaters,
         },
         Turn::Blocked => Stepped {
-            number: 20,
+            number: BLOCKED,
             updaters,
         },
-        Turn::Advanced(s) => put_stage(updaters, at, 0, s),
-        Turn::Restarted => put_stage(updaters, at, 21, Stage::TakeObject),
-        Turn::Finished => put_stage(updaters, at, 22, Stage::Idle),
+        Turn::Advanced(s) => put_stage(updaters, at, DONE, s),
+        Turn::Restarted => put_stage(updaters, at, RESTARTED, Stage::TakeObject),
+        Turn::Finished => put_stage(updaters, at, FINISHED, Stage::Idle),
     }
 }
 
@@ -63,13 +70,13 @@ pub fn update_step(
 {
     if !right_words(words.len(), times.len()) {
         return Stepped {
-            number: 12,
+            number: CORRUPT,
             updaters,
         };
     }
     if lane >= UPDATER_COUNT {
         return Stepped {
-            number: 1,
+            number: NO_SUCH_LANE,
             updaters,
         };
     }
@@ -78,7 +85,7 @@ pub fn update_step(
     let s = u.stage;
     if is_idle(s) {
         return Stepped {
-            number: 3,
+            number: LANE_IDLE,
             updaters,
         };
     }

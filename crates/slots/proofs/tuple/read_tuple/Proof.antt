@@ -8,7 +8,7 @@ use Rattle.words.specs.Map.{TUPLE-XS, TUPLE-YS}
 use Rattle.words.proofs.Parts.{part-at}
 use Rattle.slots.specs.Tuple.{read, needSlot, seen}
 use Rattle.slots.proofs.Putting.{lt-slot}
-use mathlib.Core.Path.{sym}
+use Rattle.slots.proofs.Signs.{stamp-is}
 use mir.Syntax.{w32}
 use mir.ValLaws.{toZ-ofZ}
 use borrow.Author.Needs.{needs}
@@ -108,7 +108,7 @@ returns-3 c =
     rw (
       lt-ltb _ _ (at-if1 .if1 .left),
       lt-ltb _ _ (at-if2 .if2 .left),
-      sym
+      stamp-is (c .before .before .read-stamp .result) _
           (rw (toZ-ofZ w32 _ (record { sfits = at-s .s .given })) at (c .before .before .read-stamp .ensures)),
       c .enum-told .given .1,
     )
@@ -125,7 +125,7 @@ returns-4 c =
     rw (
       lt-ltb _ _ (at-if1 .if1 .left),
       lt-ltb _ _ (at-if2 .if2 .left),
-      sym
+      stamp-is (at-read-stamp .read-stamp .result) _
           (rw (toZ-ofZ w32 _ (record { sfits = at-s .s .given })) at (at-read-stamp .read-stamp .ensures)),
       at-stamp .stamp .given .1,
       part-at (now (s .args .tuples)) 0 2048 (4 * s .args .bucket + s .args .slot) 0
@@ -150,7 +150,7 @@ returns-5 c =
     rw (
       lt-ltb _ _ (at-if1 .if1 .left),
       lt-ltb _ _ (at-if2 .if2 .left),
-      sym
+      stamp-is (at-read-stamp .read-stamp .result) _
           (rw (toZ-ofZ w32 _ (record { sfits = at-s .s .given })) at (at-read-stamp .read-stamp .ensures)),
       at-stamp2 .stamp2 .given .1,
       part-at (now (s .args .tuples)) 0 2048 (4 * s .args .bucket + s .args .slot)
