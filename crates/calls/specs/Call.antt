@@ -2,8 +2,10 @@
 use mathlib.Core.Path.{_≡_}
 use mathlib.Core.Bool.{Bool, true, false, _||_}
 use mathlib.Core.Option.{Option, none, some}
+use mathlib.Core.List.{List}
 use Prim.Native.Nat.{ℕ}
 use lib.Dec.{eqb}
+use lib.ListN.{set}
 use Rattle.base.specs.Numbers.{DONE, BLOCKED, RESTARTED, FINISHED, CORRUPT}
 use Rattle.base.specs.Outcome.{Outcome, corrupt, blocked, done}
 use Rattle.base.specs.Step.{Step}
@@ -47,6 +49,10 @@ stepped t ls put (done m) = answered (m .number) (m .tables) (put (m .next))
 abbrev pub nextLanes : {S L : Type 0} → L → (S → L) → Option S → L
 nextLanes ls put none = ls
 nextLanes ls put (some s) = put s
+
+-- what a call in lane l by itself comes to, put among the lanes
+abbrev pub placed : {L : Type 0} → List L → ℕ → After L → After (List L)
+placed ls l a = afterOf (a .number) (a .tables) (set ls l (a .lanes))
 
 -- THE NUMBERS OF ACCEPTED CALLS: 0, and of a step also blocked 20, restarted 21, finished 22. Every other number is a refusal.
 abbrev pub acceptedNumber : ℕ → Bool

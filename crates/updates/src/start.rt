@@ -10,10 +10,11 @@ ghost use Rattle.tables.specs.Tables.{withIndex};
 ghost use Rattle.updates.specs.Update.{hasRoom};
 ghost use Rattle.base.specs.Promise.{ChangesIn};
 ghost use Rattle.tables.specs.Promise.{OnGrid, OnWords};
-ghost use Rattle.updates.specs.Promise.{Starts};
+ghost use Rattle.updates.specs.Promise.{Starts, StartsOne};
 ghost use Rattle.words.specs.Map.{WORDS};
 ghost use Rattle.base.specs.Lent.{old};
 use crate::lanes::Stepped;
+use crate::lanes::SteppedOne;
 use crate::lanes::is_idle;
 use base::CLOCK_EXHAUSTED;
 use base::CLOCK_SPENT;
@@ -27,6 +28,7 @@ use base::NO_OBJECT;
 use base::NO_SUCH_LANE;
 use base::OFF_GRID;
 use base::UPDATER_COUNT;
+use calls::no_lane;
 use index::search::Search;
 use index::search::count_known;
 use index::search::enter_at;
@@ -59,7 +61,78 @@ fn enter_there(words: &mut [u32], s: Search, oid: u32) -> Change
     enter_at(&mut words[INDEX..HITS], s, oid)
 }
 
-// Starts an update of an object's place. Gives 0, or is refused with 12 (lengths), 1, 2, 4, 5, 7 or 8.
+// Starts an update of an object's place in a lane, given by value. Gives 0, or is refused with 12 (lengths), 1, 2, 4, 5, 7 or 8.
+pub fn start_one(
+    u: Updater,
+    lane: u32,
+    oid: u32,
+    x: u32,
+    y: u32,
+    words: &mut [u32],
+    times: &[i32],
+) -> SteppedOne
+    ensures { λ r. ⌜ OnGrid words times (StartsOne u lane oid x y r) ⌝ }
+{
+    if !right_words(words.len(), times.len()) {
+        return SteppedOne {
+            number: CORRUPT,
+            updater: u,
+        };
+    }
+    if lane >= UPDATER_COUNT {
+        return SteppedOne {
+            number: NO_SUCH_LANE,
+            updater: u,
+        };
+    }
+    let s = u.stage;
+    if !is_idle(s) {
+        return SteppedOne {
+            number: LANE_TAKEN,
+            updater: u,
+        };
+    }
+    if oid == 0 {
+        return SteppedOne {
+            number: NO_OBJECT,
+            updater: u,
+        };
+    }
+    if !on_grid(x, y) {
+        return SteppedOne {
+            number: OFF_GRID,
+            updater: u,
+        };
+    }
+    let place = seek_object(words, oid);
+    if !has_room(words, place) {
+        return SteppedOne {
+            number: GRID_FULL,
+            updater: u,
+        };
+    }
+    if words[CLOCK] >= CLOCK_SPENT {
+        return SteppedOne {
+            number: CLOCK_EXHAUSTED,
+            updater: u,
+        };
+    }
+    let entered = enter_there(words, place, oid);
+    let Change::Done = entered else {
+        return SteppedOne {
+            number: CORRUPT,
+            updater: u,
+        };
+    };
+    let stage = Stage::TakeObject;
+    let updater = Updater { oid, x, y, stage };
+    SteppedOne {
+        number: DONE,
+        updater,
+    }
+}
+
+// Starts an update of an object's place in one of the lanes: what `start_one` does there.
 pub fn update_start(
     updaters: [Updater; 8],
     lane: u32,
@@ -71,68 +144,18 @@ pub fn update_start(
 ) -> Stepped
     ensures { λ r. ⌜ OnGrid words times (Starts updaters lane oid x y r) ⌝ }
 {
-    if !right_words(words.len(), times.len()) {
-        return Stepped {
-            number: CORRUPT,
-            updaters,
-        };
-    }
     if lane >= UPDATER_COUNT {
-        return Stepped {
-            number: NO_SUCH_LANE,
-            updaters,
-        };
+        let number = no_lane(words.len(), times.len());
+        return Stepped { number, updaters };
     }
     let at = lane as usize;
     let u = updaters[at];
-    let s = u.stage;
-    if !is_idle(s) {
-        return Stepped {
-            number: LANE_TAKEN,
-            updaters,
-        };
-    }
-    if oid == 0 {
-        return Stepped {
-            number: NO_OBJECT,
-            updaters,
-        };
-    }
-    if !on_grid(x, y) {
-        return Stepped {
-            number: OFF_GRID,
-            updaters,
-        };
-    }
-    let place = seek_object(words, oid);
-    if !has_room(words, place) {
-        return Stepped {
-            number: GRID_FULL,
-            updaters,
-        };
-    }
-    if words[CLOCK] >= CLOCK_SPENT {
-        return Stepped {
-            number: CLOCK_EXHAUSTED,
-            updaters,
-        };
-    }
-    let entered = enter_there(words, place, oid);
-    let Change::Done = entered else {
-        return Stepped {
-            number: CORRUPT,
-            updaters,
-        };
-    };
+    let one = start_one(u, lane, oid, x, y, words, times);
+    let v = one.updater;
     let mut next = updaters;
-    next[at] = Updater {
-        oid,
-        x,
-        y,
-        stage: Stage::TakeObject,
-    };
+    next[at] = v;
     Stepped {
-        number: DONE,
+        number: one.number,
         updaters: next,
     }
 }

@@ -1,51 +1,28 @@
--- query_step does what `queryStep` says: one law of Steps.antt for each return, on the tables that were lent.
-use mathlib.Core.Path.{_≡_, sym, _∙_}
-use mathlib.Core.Bool.{Bool, true}
-use borrow.Author.Tests.{not-true, not-false}
+-- query_step does what step_one does in its lane: the laws of Lane.antt.
+use mathlib.Core.Path.{_≡_, ap, _∙_}
+use mathlib.Core.Bool.{Bool}
 use denote.Ref.{now}
-use lib.ListN.{length}
-use Rattle.words.specs.Map.{WORDS, TIMES}
-use Rattle.tables.specs.Tables.{Tables, rightLengths}
+use Rattle.base.specs.Outcome.{pick}
 use Rattle.tables.specs.Grid.{grid}
-use Rattle.tables.proofs.Grid.{grid-lengths, words-said}
-use Rattle.queries.proofs.Steps.{step-sizes, step-lane, step-idle, step-finished, step-scan}
+use Rattle.tables.proofs.Grid.{grid-lengths}
+use Rattle.calls.specs.Call.{placed}
+use Rattle.queries.proofs.Lane.{step-in, step-none}
 use borrow.Author.Needs.{needs}
 use Rattle.queries.proofs.step.query_step.Statement.{statement}
 use Rattle.queries.proofs.step.query_step.Tie as tie
-use Rattle.queries.proofs.lanes.is_finished.Reads as is-finished-reads
-use Rattle.queries.proofs.lanes.is_idle.Reads as is-idle-reads
-use Rattle.queries.proofs.scanning.scan_step.Reads as scan-step-reads
-use Rattle.queries.proofs.step.end_step.Reads as end-step-reads
-use Rattle.tables.proofs.lengths.right_words.Reads as right-words-reads
+use Rattle.calls.proofs.no_lane.Reads as no-lane-reads
+use Rattle.queries.proofs.step.step_one.Reads as step-one-reads
 
--- the tables that were lent
-abbrev whole : tie.Start → Tables
-whole s = grid (now (s .args .words)) (now (s .args .times))
-
--- what right_words answered is what `rightLengths` says of them, and of the two lists
-sized : (c : tie.After-right-words) {b : Bool} → c .right-words .result ≡ b → rightLengths (whole (c .before .before)) ≡ b
-sized c e =
-    let s = c .before .before in
-    sym (grid-lengths (now (s .args .words)) (now (s .args .times))) ∙ sym (c .right-words .ensures) ∙ e
-
-lent : (c : tie.After-right-words) → c .right-words .result ≡ true → (length (now (c .before .before .args .words)) ≡ WORDS) × (length (now (c .before .before .args .times)) ≡ TIMES)
-lent c e =
-    let s = c .before .before in
-    words-said (now (s .args .words)) (now (s .args .times)) (sized c e)
-
-right-words-requires : tie.Need-right-words-requires
-right-words-requires c κs = search needs
+no-lane-requires : tie.Need-no-lane-requires
+no-lane-requires c κs = search needs
 
 returns : tie.Need-returns
 returns c =
     let s = c .before .before .before in
-    step-sizes (whole s) _ _ (sized (c .before) (not-true (c .before .right-words .result) (c .if1 .taken)))
-
-returns-2 : tie.Need-returns-2
-returns-2 c =
-    let s = c .before .before .before .before in
-    step-lane (whole s) _ _ (sized (c .before .before)
-    (not-false (c .before .before .right-words .result) (c .before .if1 .left))) (c .if2 .taken)
+    let w = now (s .args .words) in
+    let ts = now (s .args .times) in
+    step-none (grid w ts) (s .args .t1) (s .args .lane) (c .before .if1 .taken) _
+    (c .no-lane .ensures ∙ ap (λ (b : Bool). pick b 1 12) (grid-lengths w ts))
 
 mul-q : tie.Need-mul-q
 mul-q c = search needs
@@ -53,79 +30,34 @@ mul-q c = search needs
 array-copy-out-q : tie.Need-array-copy-out-q
 array-copy-out-q c = search needs
 
-is-idle-requires : tie.Need-is-idle-requires
-is-idle-requires c κs = search needs
+step-one-requires : tie.Need-step-one-requires
+step-one-requires c κs = search needs
 
-returns-3 : tie.Need-returns-3
-returns-3 c =
-    let at-if2 = c .before .before .before in
-    let at-if1 = at-if2 .before in
-    let at-right-words = at-if1 .before in
-    let s = at-right-words .before .before in
-    step-idle (whole s) _ _ (sized at-right-words (not-false (at-right-words .right-words .result)
-    (at-if1 .if1 .left))) (at-if2 .if2 .left) (sym (c .before .is-idle .ensures) ∙ c .if3 .taken)
+mul-next : tie.Need-mul-next
+mul-next c = search needs
 
-is-finished-requires : tie.Need-is-finished-requires
-is-finished-requires c κs = search needs
-
-returns-4 : tie.Need-returns-4
-returns-4 c =
-    let at-is-idle = c .before .before .before in
-    let at-if2 = at-is-idle .before .before in
-    let at-if1 = at-if2 .before in
-    let at-right-words = at-if1 .before in
-    let s = at-right-words .before .before in
-    step-finished (whole s) _ _ (sized at-right-words
-    (not-false (at-right-words .right-words .result) (at-if1 .if1 .left))) (at-if2 .if2 .left)
-    (sym (at-is-idle .is-idle .ensures) ∙ c .before .before .if3 .left)
-    (sym (c .before .is-finished .ensures) ∙ c .if4 .taken)
-
-scan-step-requires : tie.Need-scan-step-requires
-scan-step-requires c κs =
-    let at-if2 = c .before .before .before .before .before .before in
-    let at-if1 = at-if2 .before in
-    let at-right-words = at-if1 .before in (
-      (lent at-right-words (not-false (at-right-words .right-words .result) (at-if1 .if1 .left))) .0,
-      (lent at-right-words (not-false (at-right-words .right-words .result) (at-if1 .if1 .left))) .1,
-      at-if2 .if2 .left,
-    )
-
-end-step-requires : tie.Need-end-step-requires
-end-step-requires c κs = search needs
+array-set-from-next : tie.Need-array-set-from-next
+array-set-from-next c = search needs
 
 same-length : tie.Need-same-length
 same-length c = search needs
 
-returns-5 : tie.Need-returns-5
-returns-5 c =
-    let at-scan-step = c .before .before .before in
-    let at-if4 = at-scan-step .before .before in
-    let at-is-finished = at-if4 .before in
-    let at-if3 = at-is-finished .before in
-    let at-is-idle = at-if3 .before in
-    let at-if2 = at-is-idle .before .before in
-    let at-if1 = at-if2 .before in
-    let at-right-words = at-if1 .before in
-    let s = at-right-words .before .before in
-    step-scan (whole s) _ _ (sized at-right-words (not-false (at-right-words .right-words .result)
-    (at-if1 .if1 .left))) (at-if2 .if2 .left) (sym (at-is-idle .is-idle .ensures) ∙ at-if3 .if3 .left)
-    (sym (at-is-finished .is-finished .ensures) ∙ at-if4 .if4 .left) (at-scan-step .scan-step .result) _ _ _
-    (at-scan-step .scan-step .ensures) (c .end-step .ensures .0) (c .end-step .ensures .1)
+returns-2 : tie.Need-returns-2
+returns-2 c =
+    let s = c .before .before .before .before .before .before .before .before in
+    step-in (grid (now (s .args .words)) (now (s .args .times))) (s .args .t1) (s .args .lane)
+    ∙ ap (placed (s .args .t1) (s .args .lane)) (c .before .before .before .step-one .ensures)
 
 pub query-step-spec : {M : Type 1} → statement M
 query-step-spec =
     tie.close
     (tie.spec
-    right-words-requires
+    no-lane-requires
     returns
-    returns-2
     mul-q
     array-copy-out-q
-    is-idle-requires
-    returns-3
-    is-finished-requires
-    returns-4
-    scan-step-requires
-    end-step-requires
+    step-one-requires
+    mul-next
+    array-set-from-next
     same-length
-    returns-5)
+    returns-2)

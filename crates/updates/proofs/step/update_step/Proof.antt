@@ -1,50 +1,28 @@
--- update_step does what `updateStep` says: one law of Steps.antt for each return, on the tables that were lent.
-use mathlib.Core.Path.{_≡_, sym, _∙_}
-use mathlib.Core.Bool.{Bool, true}
-use borrow.Author.Tests.{not-true, not-false}
+-- update_step does what step_one does in its lane: the laws of Lane.antt.
+use mathlib.Core.Path.{_≡_, ap, _∙_}
+use mathlib.Core.Bool.{Bool}
 use denote.Ref.{now}
-use lib.ListN.{length}
-use Rattle.words.specs.Map.{WORDS, TIMES}
-use Rattle.tables.specs.Tables.{Tables, rightLengths}
+use Rattle.base.specs.Outcome.{pick}
 use Rattle.tables.specs.Grid.{grid}
-use Rattle.tables.proofs.Grid.{grid-lengths, words-said}
-use Rattle.updates.proofs.Steps.{step-sizes, step-lane, step-idle, step-stage}
+use Rattle.tables.proofs.Grid.{grid-lengths}
+use Rattle.calls.specs.Call.{placed}
+use Rattle.updates.proofs.Lane.{step-in, step-none}
 use borrow.Author.Needs.{needs}
 use Rattle.updates.proofs.step.update_step.Statement.{statement}
 use Rattle.updates.proofs.step.update_step.Tie as tie
-use Rattle.tables.proofs.lengths.right_words.Reads as right-words-reads
-use Rattle.turns.proofs.step_stage.Reads as step-stage-reads
-use Rattle.updates.proofs.lanes.is_idle.Reads as is-idle-reads
-use Rattle.updates.proofs.step.end_step.Reads as end-step-reads
+use Rattle.calls.proofs.no_lane.Reads as no-lane-reads
+use Rattle.updates.proofs.step.step_one.Reads as step-one-reads
 
--- the tables that were lent
-abbrev whole : tie.Start → Tables
-whole s = grid (now (s .args .words)) (now (s .args .times))
-
--- what right_words answered is what `rightLengths` says of them, and of the two lists
-sized : (c : tie.After-right-words) {b : Bool} → c .right-words .result ≡ b → rightLengths (whole (c .before .before)) ≡ b
-sized c e =
-    let s = c .before .before in
-    sym (grid-lengths (now (s .args .words)) (now (s .args .times))) ∙ sym (c .right-words .ensures) ∙ e
-
-lent : (c : tie.After-right-words) → c .right-words .result ≡ true → (length (now (c .before .before .args .words)) ≡ WORDS) × (length (now (c .before .before .args .times)) ≡ TIMES)
-lent c e =
-    let s = c .before .before in
-    words-said (now (s .args .words)) (now (s .args .times)) (sized c e)
-
-right-words-requires : tie.Need-right-words-requires
-right-words-requires c κs = search needs
+no-lane-requires : tie.Need-no-lane-requires
+no-lane-requires c κs = search needs
 
 returns : tie.Need-returns
 returns c =
     let s = c .before .before .before in
-    step-sizes (whole s) _ _ (sized (c .before) (not-true (c .before .right-words .result) (c .if1 .taken)))
-
-returns-2 : tie.Need-returns-2
-returns-2 c =
-    let s = c .before .before .before .before in
-    step-lane (whole s) _ _ (sized (c .before .before)
-    (not-false (c .before .before .right-words .result) (c .before .if1 .left))) (c .if2 .taken)
+    let w = now (s .args .words) in
+    let ts = now (s .args .times) in
+    step-none (grid w ts) (s .args .t1) (s .args .lane) (c .before .if1 .taken) _
+    (c .no-lane .ensures ∙ ap (λ (b : Bool). pick b 1 12) (grid-lengths w ts))
 
 mul-u : tie.Need-mul-u
 mul-u c = search needs
@@ -52,29 +30,14 @@ mul-u c = search needs
 array-copy-out-u : tie.Need-array-copy-out-u
 array-copy-out-u c = search needs
 
-is-idle-requires : tie.Need-is-idle-requires
-is-idle-requires c κs = search needs
+step-one-requires : tie.Need-step-one-requires
+step-one-requires c κs = search needs
 
-returns-3 : tie.Need-returns-3
-returns-3 c =
-    let at-if2 = c .before .before .before in
-    let at-if1 = at-if2 .before in
-    let at-right-words = at-if1 .before in
-    let s = at-right-words .before .before in
-    step-idle (whole s) _ _ (sized at-right-words (not-false (at-right-words .right-words .result)
-    (at-if1 .if1 .left))) (at-if2 .if2 .left) (sym (c .before .is-idle .ensures) ∙ c .if3 .taken)
+mul-next : tie.Need-mul-next
+mul-next c = search needs
 
-add-step-stage : tie.Need-add-step-stage
-add-step-stage c = search needs
-
-step-stage-requires : tie.Need-step-stage-requires
-step-stage-requires c κs =
-    let at-if1 = c .before .before .before .before .before .before in
-    let at-right-words = at-if1 .before in
-    (lent at-right-words (not-false (at-right-words .right-words .result) (at-if1 .if1 .left)))
-
-end-step-requires : tie.Need-end-step-requires
-end-step-requires c κs = search needs
+array-set-from-next : tie.Need-array-set-from-next
+array-set-from-next c = search needs
 
 same-length : tie.Need-same-length
 same-length c = search needs
@@ -82,34 +45,23 @@ same-length c = search needs
 same-length-2 : tie.Need-same-length-2
 same-length-2 c = search needs
 
-returns-4 : tie.Need-returns-4
-returns-4 c =
-    let at-step-stage = c .before .before .before .before in
-    let at-if3 = at-step-stage .before .before .before in
-    let at-is-idle = at-if3 .before in
-    let at-if2 = at-is-idle .before .before in
-    let at-if1 = at-if2 .before in
-    let at-right-words = at-if1 .before in
-    let s = at-right-words .before .before in
-    step-stage (whole s) _ _ (sized at-right-words (not-false (at-right-words .right-words .result)
-    (at-if1 .if1 .left))) (at-if2 .if2 .left) (sym (at-is-idle .is-idle .ensures) ∙ at-if3 .if3 .left)
-    (at-step-stage .step-stage .result) _ _ _ (at-step-stage .step-stage .ensures) (c .end-step .ensures .0)
-    (c .end-step .ensures .1)
+returns-2 : tie.Need-returns-2
+returns-2 c =
+    let s = c .before .before .before .before .before .before .before .before .before .before in
+    step-in (grid (now (s .args .words)) (now (s .args .times))) (s .args .t1) (s .args .lane)
+    ∙ ap (placed (s .args .t1) (s .args .lane)) (c .before .before .before .before .step-one .ensures)
 
 pub update-step-spec : {M : Type 1} → statement M
 update-step-spec =
     tie.close
     (tie.spec
-    right-words-requires
+    no-lane-requires
     returns
-    returns-2
     mul-u
     array-copy-out-u
-    is-idle-requires
-    returns-3
-    add-step-stage
-    step-stage-requires
-    end-step-requires
+    step-one-requires
+    mul-next
+    array-set-from-next
     same-length
     same-length-2
-    returns-4)
+    returns-2)

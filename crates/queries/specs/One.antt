@@ -1,0 +1,32 @@
+-- The calls of range queries in one lane (document 01: sweep start, sweep step): what `queryStart` and `queryStep` do with the lane that they name.
+-- That the calls over all lanes are these, in that lane, is proofs/Lane.antt.
+use mathlib.Core.Bool.{not}
+use Prim.Native.Nat.{ℕ, _+_}
+use lib.Dec.{ltb}
+use Rattle.layout.specs.Question.{cornersOn, ordered}
+use Rattle.layout.specs.declared.question.Question.{Question}
+use Rattle.query.specs.declared.Query.{Query}
+use Rattle.tables.specs.Tables.{Tables, withClock, rightLengths}
+use Rattle.calls.specs.Call.{Result, answered, unless, stepped}
+use Rattle.queries.specs.Query.{isIdle, isFinished, begun}
+use Rattle.queries.specs.Scans.{scanOn}
+
+-- A start of a query with the question u in lane l, where the query q is.
+unfoldable pub startOne : Tables → ℕ → Query → Question → Result Query
+startOne t l q u =
+    unless (rightLengths t) 12
+    (unless (ltb l 4) 1
+    (unless (isIdle (q .stage)) 2
+    (unless (cornersOn u) 5
+    (unless (ordered u) 6
+    (unless (ltb (t .clock) 2147483600) 8
+    (answered 0 (withClock t (t .clock + 1)) (begun u (t .clock + 1))))))))
+
+-- A step of the query q of lane l.
+unfoldable pub stepOne : Tables → ℕ → Query → Result Query
+stepOne t l q =
+    unless (rightLengths t) 12
+    (unless (ltb l 4) 1
+    (unless (not (isIdle (q .stage))) 3
+    (unless (not (isFinished (q .stage))) 9
+    (stepped t q (λ s. s) (scanOn t l q (q .stage))))))

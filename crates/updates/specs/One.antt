@@ -1,0 +1,41 @@
+-- The calls of updates in one lane (document 01: report start, report step): what `updateStart` and `updateStep` do with the lane that they name.
+-- That the calls over all lanes are these, in that lane, is proofs/Lane.antt.
+use mathlib.Core.Bool.{not}
+use Prim.Native.Nat.{ℕ, suc}
+use lib.Dec.{eqb, ltb}
+use Rattle.base.specs.Outcome.{Outcome, corrupt, blocked, done}
+use Rattle.layout.specs.Place.{onGrid}
+use Rattle.index.specs.Search.{search}
+use Rattle.index.specs.Index.{Index, enter}
+use Rattle.stage.specs.Turn.{isIdle}
+use Rattle.stage.specs.declared.Stage.the-variants.{TakeObject}
+use Rattle.stage.specs.declared.Updater.{Updater}
+use Rattle.tables.specs.Tables.{Tables, withIndex, rightLengths}
+use Rattle.calls.specs.Call.{Result, refused, answered, unless, stepped}
+use Rattle.turns.specs.Stages.{stageOn}
+use Rattle.updates.specs.Update.{hasRoom, withStage}
+
+-- A step of the update u of lane l.
+unfoldable pub stepOne : Tables → ℕ → Updater → Result Updater
+stepOne t l u =
+    unless (rightLengths t) 12
+    (unless (ltb l 8) 1
+    (unless (not (isIdle (u .stage))) 3
+    (stepped t u (withStage u) (stageOn t (suc l) u (u .stage)))))
+
+unfoldable pub startedOne : Tables → Updater → Outcome Index → Result Updater
+startedOne t u corrupt = refused 12
+startedOne t u blocked = refused 12
+startedOne t u (done d) = answered 0 (withIndex t d) u
+
+-- A start of an update of object k, to stand at (x, y), in lane l, where the update u is.
+unfoldable pub startOne : Tables → ℕ → Updater → ℕ → ℕ → ℕ → Result Updater
+startOne t l u k x y =
+    unless (rightLengths t) 12
+    (unless (ltb l 8) 1
+    (unless (isIdle (u .stage)) 2
+    (unless (not (eqb k 0)) 4
+    (unless (onGrid x y) 5
+    (unless (hasRoom (search (t .index .oid) k) (t .index .oid)) 7
+    (unless (ltb (t .clock) 2147483600) 8
+    (startedOne t (record { oid = k; x = x; y = y; stage = TakeObject }) (enter (t .index) k))))))))
