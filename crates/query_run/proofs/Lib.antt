@@ -1,0 +1,3 @@
+mod Busy
+pub mod Lanes
+mod Runs

@@ -1,0 +1,2 @@
+pub mod Lanes
+mod Runs
