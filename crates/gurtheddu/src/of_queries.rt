@@ -1,0 +1,125 @@
+// The calls of range queries (document 01: sweep start, sweep steps in a row, collection).
+use crate::query_lane::LAST_SCAN;
+use crate::query_lane::QUERY_NUMBERS;
+use crate::query_lane::SCAN_AT;
+use crate::query_lane::load_query;
+use crate::query_lane::store_begun;
+use crate::query_lane::store_idle;
+use crate::query_lane::store_query;
+use base::QUERY_COUNT;
+use collect::whole::collect_one;
+use layout::question::Question;
+use layout::question::first_cell;
+use queries::start::start_one;
+use query::Query;
+use query::Scan;
+use query_run::run_query;
+
+// Starts a query of a rectangle, given by its lower and its upper corner. Gives 0, or is refused with 1, 12 (the lane's number is none), 2, 5, 6 or 8.
+#[no_mangle]
+pub extern "C" fn gurtheddu_query_start(
+    queries: &mut [u32; 44],
+    lane: u32,
+    x0: u32,
+    y0: u32,
+    x1: u32,
+    y1: u32,
+    words: &mut [u32; 13826],
+    times: &[i32; 2048],
+) -> u32 {
+    if lane >= QUERY_COUNT {
+        return 1;
+    }
+    let at = QUERY_NUMBERS * (lane as usize);
+    let stage = queries[at + SCAN_AT];
+    if stage > LAST_SCAN {
+        return 12;
+    }
+    if stage != 0 {
+        return 2;
+    }
+    let question = Question { x0, y0, x1, y1 };
+    let idle = Query {
+        question,
+        stamp: 0,
+        hits: 0,
+        steps: 0,
+        stage: Scan::Idle,
+    };
+    let one = start_one(idle, lane, x0, y0, x1, y1, words, times);
+    if one.number != 0 {
+        return one.number;
+    }
+    let visit = first_cell(question);
+    let q = one.query;
+    store_begun(queries, at, question, q.stamp, visit.cell);
+    0
+}
+
+// So many steps of a query, ended by the first number that is not 0. Gives 0 if all of them did, else the first other number: 20 or 22, or is refused
+// with 1, 12 (the lane's number is none), 3, 9 or 12 (a stored number); and how many steps were carried out.
+#[no_mangle]
+pub extern "C" fn gurtheddu_query_run(
+    queries: &mut [u32; 44],
+    lane: u32,
+    budget: u32,
+    made: &mut u32,
+    words: &mut [u32; 13826],
+    times: &[i32; 2048],
+) -> u32 {
+    *made = 0;
+    if budget == 0 {
+        return 0;
+    }
+    if lane >= QUERY_COUNT {
+        return 1;
+    }
+    let at = QUERY_NUMBERS * (lane as usize);
+    if queries[at + SCAN_AT] > LAST_SCAN {
+        return 12;
+    }
+    let q = load_query(queries, at);
+    let ran = run_query(q, lane, words, times, budget);
+    if ran.made == 0 {
+        return ran.number;
+    }
+    *made = ran.made;
+    let v = ran.query;
+    store_query(queries, at, v);
+    ran.number
+}
+
+// Hands back the list of a finished query: three numbers for each entry over the front of the caller's list, how many numbers these are, and the steps
+// of the query; the lane is idled. Gives 0, or is refused with 1, 12 (the lane's number is none), 3, 10, 11 or 12 (the number of hits).
+#[no_mangle]
+pub extern "C" fn gurtheddu_collect(
+    queries: &mut [u32; 44],
+    lane: u32,
+    out: &mut [u32],
+    steps: &mut u32,
+    filled: &mut u32,
+    words: &[u32; 13826],
+    times: &[i32; 2048],
+) -> u32 {
+    *steps = 0;
+    *filled = 0;
+    if lane >= QUERY_COUNT {
+        return 1;
+    }
+    let at = QUERY_NUMBERS * (lane as usize);
+    if queries[at + SCAN_AT] > LAST_SCAN {
+        return 12;
+    }
+    let q = load_query(queries, at);
+    let done = collect_one(q, lane, out, words, times);
+    if done.number != 0 {
+        return done.number;
+    }
+    if q.hits > 256 {
+        return 12;
+    }
+    *steps = done.steps;
+    *filled = 3 * q.hits;
+    store_idle(queries, at);
+    0
+}

@@ -1,0 +1,81 @@
+// The calls of updates (document 01: report start, and report steps in a row).
+use crate::update_lane::LAST_STAGE;
+use crate::update_lane::STAGE_AT;
+use crate::update_lane::UPDATER_NUMBERS;
+use crate::update_lane::load_updater;
+use crate::update_lane::store_started;
+use crate::update_lane::store_updater;
+use base::UPDATER_COUNT;
+use stage::Stage;
+use stage::Updater;
+use update_run::run_update;
+use updates::start::start_one;
+
+// Starts an update of an object's place. Gives 0, or is refused with 1, 12 (no stage has the lane's number), 2, 4, 5, 7 or 8.
+#[no_mangle]
+pub extern "C" fn gurtheddu_update_start(
+    updaters: &mut [u32; 72],
+    lane: u32,
+    oid: u32,
+    x: u32,
+    y: u32,
+    words: &mut [u32; 13826],
+    times: &[i32; 2048],
+) -> u32 {
+    if lane >= UPDATER_COUNT {
+        return 1;
+    }
+    let at = UPDATER_NUMBERS * (lane as usize);
+    let stage = updaters[at + STAGE_AT];
+    if stage > LAST_STAGE {
+        return 12;
+    }
+    if stage != 0 {
+        return 2;
+    }
+    let idle = Updater {
+        oid: 0,
+        x: 0,
+        y: 0,
+        stage: Stage::Idle,
+    };
+    let one = start_one(idle, lane, oid, x, y, words, times);
+    if one.number != 0 {
+        return one.number;
+    }
+    store_started(updaters, at, oid, x, y);
+    0
+}
+
+// So many steps of an update, ended by the first number that is not 0. Gives 0 if all of them did, else the first other number: 20, 21 or 22, or is
+// refused with 1, 12 (no stage has the lane's number), 3 or 12 (a stored number); and how many steps were carried out.
+#[no_mangle]
+pub extern "C" fn gurtheddu_update_run(
+    updaters: &mut [u32; 72],
+    lane: u32,
+    budget: u32,
+    made: &mut u32,
+    words: &mut [u32; 13826],
+    times: &mut [i32; 2048],
+) -> u32 {
+    *made = 0;
+    if budget == 0 {
+        return 0;
+    }
+    if lane >= UPDATER_COUNT {
+        return 1;
+    }
+    let at = UPDATER_NUMBERS * (lane as usize);
+    if updaters[at + STAGE_AT] > LAST_STAGE {
+        return 12;
+    }
+    let u = load_updater(updaters, at);
+    let ran = run_update(u, lane, words, times, budget);
+    if ran.made == 0 {
+        return ran.number;
+    }
+    *made = ran.made;
+    let v = ran.updater;
+    store_updater(updaters, at, v);
+    ran.number
+}
