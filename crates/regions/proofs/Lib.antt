@@ -1,0 +1,5 @@
+pub mod Checks
+pub mod Points
+pub mod Squares
+pub mod Walk
+pub mod Zero
