@@ -9,27 +9,19 @@ use borrow.Author.Tests.{le-leb, leb-true}
 use Rattle.layout.specs.Question as area
 use Rattle.layout.specs.declared.question.Question.{Question as Rectangle}
 use Rattle.layout.proofs.Bools.{leb-iff}
-use Rattle.layout.proofs.Corners.{Proper, proper-facts}
-use Rattle.regions.specs.Region.{radiusFits, proper, checks, square, apart, nearest, touching, within, satisfies, inside, grown, walkedBy, walked, walk, cellsTouched, firstVisit, visited, next}
-use Rattle.regions.specs.declared.region.Kind.the-variants.{Touching, Within, Centre}
-use Rattle.regions.specs.declared.region.Region.{Region}
+use Rattle.layout.proofs.Corners.{Proper, proper-iff, proper-facts}
+use Rattle.regions.specs.Region.{radiusFits, proper, checks, square, apart, nearest, touching, within, satisfies, inside, grown, walkedBy, walked, walk, cellsTouched, firstVisit, visited, next, touchingZero, centre}
 use Rattle.regions.proofs.Points.{outside-by, outside-most}
 use Rattle.regions.proofs.Squares.{both-less}
 
 -- two tests that say the same are equal
-same-test : (a b : Bool) → (So a → So b) → (So b → So a) → a ≡ b
+pub same-test : (a b : Bool) → (So a → So b) → (So b → So a) → a ≡ b
 same-test true b f g = sym (f refl)
 same-test false true f g = g refl
 same-test false false f g = refl
 
 square-zero : (n : ℕ) → n ≡ 0 → square n ≡ 0
 square-zero n e = rw e
-
-abbrev pub touchingZero : Rectangle → Region
-touchingZero a = record { kind = Touching; area = a; radius = 0 }
-
-abbrev pub centre : Rectangle → Region
-centre a = record { kind = Centre; area = a; radius = 0 }
 
 -- a coordinate that lies 0 outside an interval lies in it, and the other way round
 zero-in : (a b n : ℕ) → (a - n) + (n - b) ≤ 0 → (a ≤ n) × (n ≤ b)
@@ -59,6 +51,11 @@ module _ (a : Rectangle) where
   zero-checks = refl
 
   module _ (h : Proper a) where
+    -- with accepted corners it is in range
+    pub zero-accepted : proper (touchingZero a) ≡ true
+    unfolding proper radiusFits
+    zero-accepted = and-eq-true-iff (area.cornersOn a && area.ordered a) (leb 0 511) .1 (proper-iff a .0 h, refl)
+
     zero-touching : (x y : ℕ) → touching a 0 x y ≡ area.inside a x y
     unfolding touching area.inside
     zero-touching x y =

@@ -110,3 +110,11 @@ visited g c = proper g && area.visited (walked g) c
 -- the cell after c, none after the last; a question that is not in range, or a cell that is not of its walk, is broken
 unfoldable pub next : Region → ℕ → Outcome (Option Visit)
 next g c = need (proper g) (area.next (walked g) c)
+
+-- ---- the questions with radius 0 (document 02, m)
+
+abbrev pub touchingZero : Rectangle → Region
+touchingZero a = record { kind = Touching; area = a; radius = 0 }
+
+abbrev pub centre : Rectangle → Region
+centre a = record { kind = Centre; area = a; radius = 0 }

@@ -15,8 +15,8 @@ use layout::question::first_cell as first_in;
 use layout::question::is_visited as is_in;
 use layout::question::next_cell as next_in;
 
-// The sides of a rectangle, moved out and cut at the edge of the grid.
-fn lowered(at: u32, radius: u32) -> u32
+// A lower side moved out by the radius and cut at 0, and an upper one cut at 16,383.
+pub fn lowered(at: u32, radius: u32) -> u32
     ensures { λ r. ⌜ r ≡ at - radius ⌝ }
 {
     if at < radius {
