@@ -1,4 +1,5 @@
 pub mod Checks
+pub mod Next
 pub mod Points
 pub mod Squares
 pub mod Walk

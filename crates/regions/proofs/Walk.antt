@@ -156,7 +156,7 @@ module _ (g : Region) (c : ℕ) where
       (λ h. next-in h ∙ of.next-corrupt (walked g) c (sym (visited-in h) ∙ e))
       (λ h. next-out h)
 
-  visited-parts : visited g c ≡ true → (proper g ≡ true) × (area.visited (walked g) c ≡ true)
+  pub visited-parts : visited g c ≡ true → (proper g ≡ true) × (area.visited (walked g) c ≡ true)
   unfolding visited
   visited-parts e = and-eq-true-iff (proper g) (area.visited (walked g) c) .0 e
 
