@@ -1,6 +1,6 @@
 -- `whole` holds of a cell exactly where every point of it satisfies the question, for all three kinds.
 -- A point of a cell lies no farther outside the rectangle than one of the cell's edges, in x and in y separately.
--- So the corner that lies farthest decides for touching, and the two edges of each coordinate decide for within and centre.
+-- So the corner that lies farthest decides for touching, and the two edges of each coordinate for within and centre.
 use mathlib.Core.Path.{_≡_, refl, sym, _∙_}
 use mathlib.Core.Bool.{Bool, true, false, _&&_, So, and-eq-true-iff}
 use mathlib.Core.Logic.{_↔_}
@@ -13,7 +13,8 @@ use Rattle.layout.specs.Place.{onGrid, cellOf}
 use Rattle.layout.specs.Question as area
 use Rattle.layout.specs.declared.question.Question.{Question as Rectangle}
 use Rattle.layout.proofs.Bools.{leb-iff}
-use Rattle.layout.proofs.Corners.{Proper, proper-facts}
+use Rattle.layout.specs.Question.{Proper}
+use Rattle.layout.proofs.Corners.{proper-facts}
 use Rattle.layout.proofs.Places.{on-grid-to, on-grid-from}
 use Rattle.regions.specs.Region.{proper, square, apart, nearest, touching, within, satisfies, inside, touchingZero, centre}
 use Rattle.regions.specs.declared.region.Kind.{Kind}

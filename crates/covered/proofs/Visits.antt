@@ -55,7 +55,8 @@ unfolding nextVisit
 next-whole g c v e =
     let m = marked-some g (region.next g c) v e in
     let s = next-visited g c (m .0) (m .1) in
-    rw (← m .2) (s, whole-iff g (m .0 .cell) (visited-walk g (m .0 .cell) s .0) (visited-below g (m .0 .cell) s))
+    let in-range = visited-walk g (m .0 .cell) s .0 in
+    rw (← m .2) (s, whole-iff g (m .0 .cell) in-range (visited-below g (m .0 .cell) s))
 
 -- and so is the first
 pub first-whole : (g : Region) → region.proper g ≡ true → (firstVisit g .whole ≡ true) ↔ Wholly g (firstVisit g .cell)

@@ -43,11 +43,13 @@ farthest a b l u = max (a - l) (u - b)
 -- the corner of the cell that lies farthest from the rectangle is at most the radius away
 unfoldable pub reached : Rectangle → ℕ → ℕ → Bool
 reached a r c =
-    leb (square (farthest (a .x0) (a .x1) (left c) (right c)) + square (farthest (a .y0) (a .y1) (bottom c) (top c))) (square r)
+    leb (square (farthest (a .x0) (a .x1) (left c) (right c)) + square (farthest (a .y0) (a .y1) (bottom c) (top c)))
+    (square r)
 
 -- the edges of the cell lie at least the radius inside each of the four sides
 unfoldable pub deep : Rectangle → ℕ → ℕ → Bool
-deep a r c = leb (a .x0 + r) (left c) && leb (right c + r) (a .x1) && leb (a .y0 + r) (bottom c) && leb (top c + r) (a .y1)
+deep a r c =
+    leb (a .x0 + r) (left c) && leb (right c + r) (a .x1) && leb (a .y0 + r) (bottom c) && leb (top c + r) (a .y1)
 
 unfoldable pub wholeBy : Kind → Rectangle → ℕ → ℕ → Bool
 wholeBy Touching a r c = reached a r c

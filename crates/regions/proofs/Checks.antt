@@ -8,9 +8,9 @@ use native.Mathlib.Omega.{arith}
 use types.Run.{OneOf}
 use denote.Enum.Declared.{tagOf}
 use Rattle.base.specs.Outcome.{Told, says, pick}
-use Rattle.layout.specs.Question.{cornersOn, ordered}
+use Rattle.layout.specs.Question.{cornersOn, ordered, Proper}
 use Rattle.layout.proofs.Bools.{not-so}
-use Rattle.layout.proofs.Corners.{Proper, proper-iff}
+use Rattle.layout.proofs.Corners.{proper-iff}
 use Rattle.regions.specs.Region.{radiusFits, proper, checks, checkedSays}
 use Rattle.regions.specs.declared.region.Region.{Region}
 use Rattle.regions.specs.declared.region.Checked.{Checked}
@@ -88,11 +88,13 @@ module _ (g : Region) where
   unfolding checks pick
   checks-crossed h = rw (h .0, h .1)
 
-  pub checks-wide : (cornersOn (g .area) ≡ true) × (ordered (g .area) ≡ true) → radiusFits (g .kind) (g .radius) ≡ false → checks g ≡ says 32 []
+  pub checks-wide : (cornersOn (g .area) ≡ true) × (ordered (g .area) ≡ true)
+      → radiusFits (g .kind) (g .radius) ≡ false → checks g ≡ says 32 []
   unfolding checks pick
   checks-wide h k = rw (h .0, h .1, k)
 
-  pub checks-fits : (cornersOn (g .area) ≡ true) × (ordered (g .area) ≡ true) → radiusFits (g .kind) (g .radius) ≡ true → checks g ≡ says 0 []
+  pub checks-fits : (cornersOn (g .area) ≡ true) × (ordered (g .area) ≡ true)
+      → radiusFits (g .kind) (g .radius) ≡ true → checks g ≡ says 0 []
   unfolding checks pick
   checks-fits h k = rw (h .0, h .1, k)
 
@@ -103,7 +105,8 @@ module _ (g : Region) where
 
     pub checked-off : r ≡ OffGrid → cornersOn (g .area) ≡ false
     unfolding checks
-    checked-off p = told-off (cornersOn (g .area)) (ordered (g .area)) (radiusFits (g .kind) (g .radius)) (e ∙ ap checkedSays p)
+    checked-off p =
+        told-off (cornersOn (g .area)) (ordered (g .area)) (radiusFits (g .kind) (g .radius)) (e ∙ ap checkedSays p)
 
     pub checked-crossed : r ≡ Crossed → (cornersOn (g .area) ≡ true) × (ordered (g .area) ≡ false)
     unfolding checks
@@ -126,5 +129,6 @@ not-accepted Crossed o e = omega (arith, same-number e)
 not-accepted Wide o e = omega (arith, same-number e)
 
 -- where the answer is such a one, the question is out of range
-pub checked-refused : (g : Region) (r : Checked) → checks g ≡ checkedSays r → OneOf (1 ∷ 2 ∷ 3 ∷ []) (tagOf the-type r) → proper g ≡ false
+pub checked-refused : (g : Region) (r : Checked) → checks g ≡ checkedSays r
+    → OneOf (1 ∷ 2 ∷ 3 ∷ []) (tagOf the-type r) → proper g ≡ false
 checked-refused g r e o = not-so (proper g) (λ h. not-accepted r o (sym e ∙ checks-proper g .1 h))

@@ -1,4 +1,5 @@
--- The walk from a visited cell on, by the test `visited` alone: the next cell is the least visited one above, and there is none after the last.
+-- The walk from a visited cell on, by the test `visited` alone: the next cell is the least visited one above,
+-- and there is none after the last.
 -- Each law is that of the rectangle that is walked, with its columns and rows turned into the test.
 use mathlib.Core.Path.{_≡_, _∙_}
 use mathlib.Core.Bool.{true}
@@ -8,7 +9,7 @@ use Prim.Native.Nat.{ℕ, _+_, _*_, _/_, _%_, _≤_, _<_}
 use native.Mathlib.Omega.{arith}
 use Rattle.base.specs.Outcome.{done}
 use Rattle.layout.specs.Place.{cellOf}
-use Rattle.layout.proofs.Corners.{Proper}
+use Rattle.layout.specs.Question.{Proper}
 use Rattle.layout.proofs.Covers.{Covers, visited-covers, covers-visited}
 use Rattle.layout.proofs.Next as of
 use Rattle.regions.specs.Region.{walked, firstVisit, lastCell, visited, next}

@@ -1,5 +1,6 @@
 -- The points that satisfy a question: what touching means, and the questions by kind.
--- A coordinate lies as far from the nearest one of an interval as it lies outside the interval, and from no other is it nearer.
+-- A coordinate lies as far from the nearest one of an interval as it lies outside the interval,
+-- and to no other is it nearer.
 use mathlib.Core.Path.{_≡_}
 use mathlib.Core.Bool.{Bool, true, false, _&&_, and-eq-true-iff}
 use mathlib.Core.Logic.{_↔_}
@@ -10,7 +11,8 @@ use borrow.Author.Tests.{le-leb, leb-true}
 use Rattle.layout.specs.Question as area
 use Rattle.layout.specs.declared.question.Question.{Question as Rectangle}
 use Rattle.layout.proofs.Bools.{leb-iff}
-use Rattle.layout.proofs.Corners.{Proper, proper-facts}
+use Rattle.layout.specs.Question.{Proper}
+use Rattle.layout.proofs.Corners.{proper-facts}
 use Rattle.regions.specs.Near.{Near}
 use Rattle.regions.specs.Region.{square, apart, nearest, touching, within, satisfies, inside}
 use Rattle.regions.specs.declared.region.Kind.the-variants.{Touching, Within, Centre}
@@ -53,7 +55,9 @@ touching-near a r x y h =
           let s = simp (and-eq-true-iff, leb-iff) at (n .there) in
           let i = square-more (no-nearer (a .x0) (a .x1) x (n .px) (f .0) (s .0 .0 .0) (s .0 .0 .1)) in
           let j = square-more (no-nearer (a .y0) (a .y1) y (n .py) (f .1) (s .0 .1) (s .1)) in
-          le-leb (square (apart x (nearest (a .x0) (a .x1) x)) + square (apart y (nearest (a .y0) (a .y1) y))) (square r)
+          let dx = apart x (nearest (a .x0) (a .x1) x) in
+          let dy = apart y (nearest (a .y0) (a .y1) y) in
+          le-leb (square dx + square dy) (square r)
           (omega (arith, n .close, i, j))),
     )
 
@@ -64,7 +68,8 @@ module _ (a : Rectangle) (r x y : ℕ) where
   unfolding within
   within-no h = rw h
 
-  pub within-yes : (leb (a .x0 + r) x && leb (x + r) (a .x1)) ≡ true → within a r x y ≡ (leb (a .y0 + r) y && leb (y + r) (a .y1))
+  pub within-yes : (leb (a .x0 + r) x && leb (x + r) (a .x1)) ≡ true
+      → within a r x y ≡ (leb (a .y0 + r) y && leb (y + r) (a .y1))
   unfolding within
   within-yes h = rw h
 

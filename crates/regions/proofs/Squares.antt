@@ -1,4 +1,5 @@
--- Squares: they are in the order of the numbers, those of 32 bits fit in 64, and the comparison that `is_close` makes is that of the sum.
+-- Squares: they are in the order of the numbers, those of 32 bits fit in 64,
+-- and the comparison that `is_close` makes is that of the sum.
 use mathlib.Core.Path.{_≡_, sym, _∙_}
 use mathlib.Core.Bool.{true, false}
 use Prim.Native.Nat.{ℕ, _+_, _-_, _*_, _^_, _≤_, _<_}

@@ -1,10 +1,11 @@
--- The walk of a question that is in range: a place inside has its cell in it exactly once, and the laws of the walk of a rectangle hold of it.
+-- The walk of a question that is in range: a place inside has its cell in it exactly once,
+-- and the laws of the walk of a rectangle hold of it.
 -- The argument: what satisfies the question lies in the rectangle that is walked, whose corners are accepted.
 use mathlib.Core.Path.{_≡_, refl, sym, _∙_}
 use mathlib.Core.Bool.{true, false, and-eq-true-iff}
 use mathlib.Core.List.{List, [], _∷_, _++_}
 use mathlib.Core.Option.{none, some}
-use Prim.Native.Nat.{ℕ, _+_, _-_, _*_, _≤_, _<_, min, max}
+use Prim.Native.Nat.{ℕ, _+_, _-_, _*_, _/_, _≤_, _<_, min, max}
 use native.Mathlib.Omega.{arith}
 use lib.Dec.{eqb}
 use lib.ListN.{length}
@@ -16,7 +17,8 @@ use Rattle.layout.specs.Question as area
 use Rattle.layout.specs.declared.question.Question.{Question as Rectangle}
 use Rattle.layout.specs.declared.question.Visit.{Visit}
 use Rattle.layout.proofs.Bools.{leb-iff, need-done-iff}
-use Rattle.layout.proofs.Corners.{Proper, proper-facts, facts-proper}
+use Rattle.layout.specs.Question.{Proper}
+use Rattle.layout.proofs.Corners.{proper-facts, facts-proper}
 use Rattle.layout.proofs.Order.{In, Ascending, times}
 use Rattle.layout.proofs.Places.{on-grid-to}
 use Rattle.layout.proofs.Walk as of
@@ -57,7 +59,9 @@ module _ (a : Rectangle) (r x y : ℕ) (h : Proper a) (on : onGrid x y ≡ true)
   touching-walked e =
       let f = proper-facts a h in
       let g = on-grid-to x y on in
-      let b = both-less (apart x (nearest (a .x0) (a .x1) x)) (apart y (nearest (a .y0) (a .y1) y)) r (leb-true _ _ e) in
+      let dx = apart x (nearest (a .x0) (a .x1) x) in
+      let dy = apart y (nearest (a .y0) (a .y1) y) in
+      let b = both-less dx dy r (leb-true (square dx + square dy) (square r) e) in
       let u = in-grown (a .x0) (a .x1) r x (g .0) (outside-most (a .x0) (a .x1) r x (f .0) (b .0)) in
       let v = in-grown (a .y0) (a .y1) r y (g .1) (outside-most (a .y0) (a .y1) r y (f .1) (b .1)) in
       simp (and-eq-true-iff, leb-iff) (((u .0, u .1), v .0), v .1)
@@ -109,20 +113,29 @@ module _ (g : Region) (h : proper g ≡ true) where
   unfolding walk cellsTouched
   walk-length = of.walk-length (walked g) (proper-walked g h)
 
+  -- which is columns by rows of the rectangle that is walked
+  pub cells-touched : cellsTouched g
+      ≡ (walked g .x1 / 1024 - walked g .x0 / 1024 + 1) * (walked g .y1 / 1024 - walked g .y0 / 1024 + 1)
+  unfolding cellsTouched
+  cells-touched = of.cells-touched (walked g) (proper-walked g h)
+
   pub walk-below : (c : ℕ) → In c (walk g) → c < 256
   unfolding walk
   walk-below c i = of.walk-below (walked g) (proper-walked g h) c i
 
   pub walk-visited : (c : ℕ) → In c (walk g) → visited g c ≡ true
   unfolding walk visited
-  walk-visited c i = and-eq-true-iff (proper g) (area.visited (walked g) c) .1 (h, of.walk-visited (walked g) (proper-walked g h) c i)
+  walk-visited c i =
+      and-eq-true-iff (proper g) (area.visited (walked g) c) .1
+      (h, of.walk-visited (walked g) (proper-walked g h) c i)
 
   pub first-of-walk : (rest : List ℕ) × (walk g ≡ firstVisit g .cell ∷ rest)
   unfolding walk
   first-of-walk = of.first-of-walk (walked g) (proper-walked g h)
 
   -- the cell after c in the walk is the one that `next` gives; after the last it gives none
-  pub next-after : (pre : List ℕ) (c d : ℕ) (rest : List ℕ) → walk g ≡ pre ++ c ∷ d ∷ rest → next g c ≡ done (some (record { cell = d }))
+  pub next-after : (pre : List ℕ) (c d : ℕ) (rest : List ℕ) → walk g ≡ pre ++ c ∷ d ∷ rest
+      → next g c ≡ done (some (record { cell = d }))
   unfolding walk next need
   next-after pre c d rest e = rw h (of.next-after (walked g) (proper-walked g h) pre c d rest e)
 

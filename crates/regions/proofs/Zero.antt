@@ -1,4 +1,5 @@
--- Touching with radius 0 is the centre question (document 02, m): the same points satisfy it and the same cells are walked. So is within.
+-- Touching with radius 0 is the centre question (document 02, m): the same points satisfy it, the same cells are walked.
+-- So is within with radius 0.
 -- With radius 0 a coordinate may lie 0 outside its interval, that is, in it; and the grown rectangle is the rectangle.
 use mathlib.Core.Path.{_≡_, refl, sym, ap}
 use mathlib.Core.Bool.{Bool, true, false, _&&_, So, and-eq-true-iff}
@@ -9,7 +10,8 @@ use borrow.Author.Tests.{le-leb, leb-true}
 use Rattle.layout.specs.Question as area
 use Rattle.layout.specs.declared.question.Question.{Question as Rectangle}
 use Rattle.layout.proofs.Bools.{leb-iff}
-use Rattle.layout.proofs.Corners.{Proper, proper-iff, proper-facts}
+use Rattle.layout.specs.Question.{Proper}
+use Rattle.layout.proofs.Corners.{proper-iff, proper-facts}
 use Rattle.regions.specs.Region.{radiusFits, proper, checks, square, apart, nearest, touching, within, satisfies, inside, grown, walkedBy, walked, walk, cellsTouched, firstVisit, visited, next, touchingZero, centre}
 use Rattle.regions.proofs.Points.{outside-by, outside-most}
 use Rattle.regions.proofs.Squares.{both-less}
@@ -62,7 +64,8 @@ module _ (a : Rectangle) where
         let f = proper-facts a h in
         let dx = apart x (nearest (a .x0) (a .x1) x) in
         let dy = apart y (nearest (a .y0) (a .y1) y) in
-        same-test (leb (square dx + square dy) (square 0)) (leb (a .x0) x && leb x (a .x1) && leb (a .y0) y && leb y (a .y1))
+        same-test (leb (square dx + square dy) (square 0))
+        (leb (a .x0) x && leb x (a .x1) && leb (a .y0) y && leb y (a .y1))
         (λ e.
         let b = both-less dx dy 0 (leb-true (square dx + square dy) (square 0) e) in
         let u = zero-in (a .x0) (a .x1) x (outside-most (a .x0) (a .x1) 0 x (f .0) (b .0)) in

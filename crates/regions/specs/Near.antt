@@ -1,4 +1,4 @@
--- What touching means, said once more without the nearest point: some point of the rectangle lies at most the radius away.
+-- What touching means, said without the nearest point: some point of the rectangle lies at most the radius away.
 use mathlib.Core.Path.{_≡_}
 use mathlib.Core.Bool.{true}
 use Prim.Native.Nat.{ℕ, _+_, _≤_}

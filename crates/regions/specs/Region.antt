@@ -1,5 +1,6 @@
 -- What a range query asks (document 02, e): a rectangle, a radius, and one of three questions about them.
--- Touching is T, Within W, Centre Q. Crates above use the laws of proofs/ and do not unfold `inside`, `visited`, `next` and `walk`.
+-- Touching is T, Within W, Centre Q.
+-- Crates above use the laws of proofs/ and do not unfold `inside`, `visited`, `next` and `walk`.
 use mathlib.Core.Bool.{Bool, true, _&&_}
 use mathlib.Core.List.{List, []}
 use mathlib.Core.Option.{Option}
@@ -23,7 +24,8 @@ radiusFits Touching r = leb r 511
 radiusFits Within r = leb r 511
 radiusFits Centre r = true
 
--- IN RANGE: what a start accepts, and what a stored question has to be: corners on the grid, in order, and a radius that fits
+-- IN RANGE, what a start accepts and what a stored question has to be:
+-- corners on the grid, in order, and a radius that fits
 unfoldable pub proper : Region → Bool
 proper g = area.cornersOn (g .area) && area.ordered (g .area) && radiusFits (g .kind) (g .radius)
 

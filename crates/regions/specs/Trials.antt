@@ -1,4 +1,5 @@
--- Small cases of the three questions, computed: a table of what the definitions give and what document 02 says, and one proof of all rows.
+-- Small cases of the three questions, computed: a table of what the definitions give and what document 02 says,
+-- and one proof of all rows.
 use mathlib.Core.Path.{_≡_, refl}
 use mathlib.Core.Bool.{Bool}
 use mathlib.Core.Option.{none, some}
@@ -39,9 +40,10 @@ spot k x y r = ask k x y x y r
 abbrev number : Region → List ℕ
 number g = one (checks g .number)
 
--- 1 where the point is inside, else 0
-abbrev at : Region → ℕ → ℕ → ℕ
-at g x y = pick (inside g x y) 1 0
+-- for each point 1 where it is inside, else 0
+unfoldable pub at : Region → List (ℕ × ℕ) → List ℕ
+at g [] = []
+at g (p ∷ ps) = pick (inside g (p .0) (p .1)) 1 0 ∷ at g ps
 
 abbrev after : Region → ℕ → List ℕ
 after g c = tells area.visitValues (next g c) .number ∷ tells area.visitValues (next g c) .values
@@ -62,22 +64,24 @@ numberRows =
 -- points: radius 500 with the 3-4-5 corner, radius 0, radius 1, radius 511, the edges of the deck
 unfoldable pointRows : List Row
 pointRows =
-    row (at (big Touching 500) 500 1000 ∷ at (big Touching 500) 499 1000 ∷ []) (1 ∷ 0 ∷ [])
-    ∷ row (at (big Touching 500) 600 700 ∷ at (big Touching 500) 599 700 ∷ at (big Touching 500) 600 699 ∷ []) (1 ∷ 0 ∷ 0 ∷ [])
-    ∷ row (at (big Touching 500) 2300 2400 ∷ at (big Touching 500) 2300 2401 ∷ at (big Touching 500) 501 501 ∷ []) (1 ∷ 0 ∷ 0 ∷ [])
-    ∷ row (at (big Touching 0) 1000 2000 ∷ at (big Touching 0) 999 2000 ∷ at (big Touching 0) 1000 2001 ∷ []) (1 ∷ 0 ∷ 0 ∷ [])
-    ∷ row (at (big Touching 1) 999 1000 ∷ at (big Touching 1) 999 999 ∷ at (big Touching 1) 998 1000 ∷ []) (1 ∷ 0 ∷ 0 ∷ [])
-    ∷ row (at (spot Touching 0 0 511) 511 0 ∷ at (spot Touching 0 0 511) 512 0 ∷ []) (1 ∷ 0 ∷ [])
-    ∷ row (at (spot Touching 16383 16383 1) 16382 16383 ∷ at (spot Touching 16383 16383 1) 16382 16382 ∷ []) (1 ∷ 0 ∷ [])
-    ∷ row (at (big Within 500) 1500 1500 ∷ at (big Within 500) 1499 1500 ∷ at (big Within 500) 1500 1501 ∷ []) (1 ∷ 0 ∷ 0 ∷ [])
-    ∷ row (at (big Within 501) 1500 1500 ∷ at (big Within 501) 0 0 ∷ []) (0 ∷ 0 ∷ [])
-    ∷ row (at (big Within 0) 1000 2000 ∷ at (big Within 0) 999 2000 ∷ []) (1 ∷ 0 ∷ [])
-    ∷ row (at (big Within 1) 1001 1999 ∷ at (big Within 1) 1000 1999 ∷ at (big Within 1) 1001 2000 ∷ []) (1 ∷ 0 ∷ 0 ∷ [])
-    ∷ row (at (spot Within 0 0 1) 0 0 ∷ at (spot Within 16383 16383 511) 16383 16383 ∷ []) (0 ∷ 0 ∷ [])
-    ∷ row (at (big Centre 500) 1000 2000 ∷ at (big Centre 500) 999 2000 ∷ []) (1 ∷ 0 ∷ [])
+    row (at (big Touching 500) ((500, 1000) ∷ (499, 1000) ∷ [])) (1 ∷ 0 ∷ [])
+    ∷ row (at (big Touching 500) ((600, 700) ∷ (599, 700) ∷ (600, 699) ∷ [])) (1 ∷ 0 ∷ 0 ∷ [])
+    ∷ row (at (big Touching 500) ((2300, 2400) ∷ (2300, 2401) ∷ (501, 501) ∷ [])) (1 ∷ 0 ∷ 0 ∷ [])
+    ∷ row (at (big Touching 0) ((1000, 2000) ∷ (999, 2000) ∷ (1000, 2001) ∷ [])) (1 ∷ 0 ∷ 0 ∷ [])
+    ∷ row (at (big Touching 1) ((999, 1000) ∷ (999, 999) ∷ (998, 1000) ∷ [])) (1 ∷ 0 ∷ 0 ∷ [])
+    ∷ row (at (spot Touching 0 0 511) ((511, 0) ∷ (512, 0) ∷ [])) (1 ∷ 0 ∷ [])
+    ∷ row (at (spot Touching 16383 16383 1) ((16382, 16383) ∷ (16382, 16382) ∷ [])) (1 ∷ 0 ∷ [])
+    ∷ row (at (big Within 500) ((1500, 1500) ∷ (1499, 1500) ∷ (1500, 1501) ∷ [])) (1 ∷ 0 ∷ 0 ∷ [])
+    ∷ row (at (big Within 0) ((1000, 2000) ∷ (999, 2000) ∷ [])) (1 ∷ 0 ∷ [])
+    ∷ row (at (big Within 1) ((1001, 1999) ∷ (1000, 1999) ∷ (1001, 2000) ∷ [])) (1 ∷ 0 ∷ 0 ∷ [])
+    -- W with no point
+    ∷ row (at (big Within 501) ((1500, 1500) ∷ (1499, 1501) ∷ (0, 0) ∷ [])) (0 ∷ 0 ∷ 0 ∷ [])
+    ∷ row (at (ask Within 0 0 1 1 1) ((0, 0) ∷ (1, 0) ∷ (0, 1) ∷ (1, 1) ∷ [])) (0 ∷ 0 ∷ 0 ∷ 0 ∷ [])
+    ∷ row (at (big Centre 500) ((1000, 2000) ∷ (999, 2000) ∷ [])) (1 ∷ 0 ∷ [])
     ∷ []
 
--- cells: T grows the rectangle and is cut at the deck's edge; W and Q keep it; K counts corner cells in which no point qualifies
+-- cells: T grows the rectangle and is cut at the deck's edge; W and Q keep it;
+-- K counts corner cells in which no point qualifies
 unfoldable cellRows : List Row
 cellRows =
     row (walk (big Touching 500)) (0 ∷ 1 ∷ 2 ∷ 16 ∷ 17 ∷ 18 ∷ 32 ∷ 33 ∷ 34 ∷ [])
@@ -88,7 +92,7 @@ cellRows =
     ∷ row (walk (spot Touching 15360 16383 511)) (254 ∷ 255 ∷ [])
     ∷ row (walk (spot Touching 1024 1024 0)) (one 17)
     ∷ row (walk (spot Touching 1024 1024 1)) (0 ∷ 1 ∷ 16 ∷ 17 ∷ [])
-    ∷ row (at (spot Touching 1024 1024 1) 1023 1023 ∷ cellsTouched (spot Touching 1024 1024 1) ∷ []) (0 ∷ 4 ∷ [])
+    ∷ row (cellsTouched (spot Touching 1024 1024 1) ∷ at (spot Touching 1024 1024 1) ((1023, 1023) ∷ [])) (4 ∷ 0 ∷ [])
     ∷ row (cellsTouched (big Within 501) ∷ cellsTouched (ask Touching 0 0 16383 16383 511) ∷ []) (4 ∷ 256 ∷ [])
     ∷ row (firstVisit (spot Touching 1024 1024 1) .cell ∷ after (spot Touching 1024 1024 1) 1) (0 ∷ 0 ∷ 16 ∷ [])
     ∷ row (after (spot Touching 1024 1024 1) 17) (one 0)
@@ -110,7 +114,7 @@ says (r ∷ t) = r .says ∷ says t
 
 -- THE PROOF: every row gives what document 02 says
 pub trials : gives table ≡ says table
-unfolding table numberRows pointRows cellRows gives says checks radiusFits proper touching within satisfies inside walkedBy
-    walk cellsTouched visited next area.cornersOn area.ordered area.inside area.walk area.rowsFrom area.columns area.rows
-    area.cellsTouched area.visited area.next numbersFrom onGrid cellOf pick need tells
+unfolding table numberRows pointRows cellRows gives says at checks radiusFits proper touching within satisfies inside
+    walkedBy walk cellsTouched visited next area.cornersOn area.ordered area.inside area.walk area.rowsFrom area.columns
+    area.rows area.cellsTouched area.visited area.next numbersFrom onGrid cellOf pick need tells
 trials = refl

@@ -1,4 +1,4 @@
-// Whether a point satisfies a question, for every content of the question: nothing overflows and nothing goes below zero.
+// Whether a point satisfies a question, for every content of the question: nothing overflows or goes below zero.
 ghost use mathlib.Core.Path.{_≡_};
 ghost use Prim.Native.Nat.{_+_, max, min};
 ghost use mathlib.Core.Bool.{_&&_};

@@ -1,4 +1,5 @@
-// The three questions of a range query (document 02: touching, within, centre), and the cells that are scanned for them. No table.
+// The three questions of a range query (document 02: touching, within, centre), and the cells scanned for them.
+// No table.
 pub mod inside;
 pub mod region;
 pub mod scan;

@@ -24,11 +24,15 @@ is-whole-requires c κs = search needs
 
 returns : tie.Need-returns
 unfolding told
-returns c = rw (visit-broken _ _ (next-broken (next _ _) (c .before .before .next-cell .ensures) (c .enum-told .given .1)))
+returns c =
+    let e = c .before .before .next-cell .ensures in
+    rw (visit-broken _ _ (next-broken (next _ _) e (c .enum-told .given .1)))
 
 returns-2 : tie.Need-returns-2
 unfolding told
-returns-2 c = rw (visit-end _ _ (next-end (next _ _) (c .before .before .next-cell .ensures) (c .enum-told2 .given .1)))
+returns-2 c =
+    let e = c .before .before .next-cell .ensures in
+    rw (visit-end _ _ (next-end (next _ _) e (c .enum-told2 .given .1)))
 
 returns-3 : tie.Need-returns-3
 unfolding told

@@ -30,17 +30,20 @@ is-deep-cell-requires-2 c κs = search needs
 returns-2 : tie.Need-returns-2
 returns-2 c =
     let told = c .before in
-    c .is-reached .ensures ∙ sym (whole-reached _ _ (lt-ltb _ _ (told .before .before .before .if1 .left)) (told .enum-told .given .1))
+    let below = lt-ltb _ _ (told .before .before .before .if1 .left) in
+    c .is-reached .ensures ∙ sym (whole-reached _ _ below (told .enum-told .given .1))
 
 returns-3 : tie.Need-returns-3
 returns-3 c =
     let told = c .before in
-    c .is-deep-cell .ensures ∙ sym (whole-deep _ _ (lt-ltb _ _ (told .before .before .before .if1 .left)) (told .enum-told2 .given .1))
+    let below = lt-ltb _ _ (told .before .before .before .if1 .left) in
+    c .is-deep-cell .ensures ∙ sym (whole-deep _ _ below (told .enum-told2 .given .1))
 
 returns-4 : tie.Need-returns-4
 returns-4 c =
     let told = c .before in
-    c .is-deep-cell2 .ensures ∙ sym (whole-centre _ _ (lt-ltb _ _ (told .before .before .before .if1 .left)) (told .enum-told3 .given .1))
+    let below = lt-ltb _ _ (told .before .before .before .if1 .left) in
+    c .is-deep-cell2 .ensures ∙ sym (whole-centre _ _ below (told .enum-told3 .given .1))
 
 pub is-whole-spec : {M : Type 1} → statement M
 is-whole-spec =

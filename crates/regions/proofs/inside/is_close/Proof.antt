@@ -1,4 +1,5 @@
--- `is_close` compares squares: a side longer than the radius decides at once; else every square is at most that of the radius, and fits in 64 bits.
+-- `is_close` compares squares: a side longer than the radius decides at once;
+-- else every square is at most that of the radius, and fits in 64 bits.
 use mathlib.Core.Path.{sym}
 use borrow.Author.Needs.{needs}
 use Rattle.regions.proofs.Squares.{square-more, square-fits, far-left, far-right, close-is}

@@ -20,7 +20,8 @@ is-deep-requires-2 c κs = search needs
 returns-2 : tie.Need-returns-2
 returns-2 c =
     let first = c .before .before .is-deep in
-    c .is-deep2 .ensures ∙ sym (within-yes _ _ _ _ (sym (first .ensures) ∙ not-false (first .result) (c .before .if1 .left)))
+    let deep = sym (first .ensures) ∙ not-false (first .result) (c .before .if1 .left) in
+    c .is-deep2 .ensures ∙ sym (within-yes _ _ _ _ deep)
 
 pub is-within-spec : {M : Type 1} → statement M
 is-within-spec = tie.close (tie.spec is-deep-requires returns is-deep-requires-2 returns-2)

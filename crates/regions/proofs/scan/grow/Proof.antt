@@ -19,7 +19,12 @@ returns : tie.Need-returns
 returns c =
     let at-raised = c .before in
     let at-lowered2 = at-raised .before in
-    rw (← at-lowered2 .before .lowered .ensures, ← at-lowered2 .lowered2 .ensures, ← at-raised .raised .ensures, ← c .raised2 .ensures)
+    rw (
+      ← at-lowered2 .before .lowered .ensures,
+      ← at-lowered2 .lowered2 .ensures,
+      ← at-raised .raised .ensures,
+      ← c .raised2 .ensures,
+    )
 
 pub grow-spec : {M : Type 1} → statement M
 grow-spec =
