@@ -1,7 +1,7 @@
 """The calls of the deck, written once more in Python for every content of the tables.
 
-From docs/SCOPE.md (document 01) and docs/DECISIONS.md (what 12 looks at), not from the code: tools/compare-damaged holds
-the library against it. Stages and numbers are document 01's; the tables are those of docs/TABLES.md.
+From docs/SCOPE.md (document 01) and docs/DECISIONS.md (what 12 looks at), not from the code. tools/compare-damaged
+holds the library against it. Stages and numbers are document 01's; the tables are those of docs/TABLES.md.
 
 A call that is refused or held raises `Refused`, and what it had stored by then is taken back. So each definition can
 follow document 01's order, and tests may stand wherever a number is used.
