@@ -287,11 +287,12 @@ static const struct call {
 /* Makes the call of a line if it begins with a call's name, which no line of a script does. */
 static int named_call(const char *line)
 {
-    static char copy[4096];
+    static char *copy;
     char *word[8] = {NULL};
     size_t i;
     int n = 0;
-    if (strlen(line) >= sizeof copy) return 0;
+    copy = realloc(copy, strlen(line) + 1);
+    if (!copy) stop(2, "no memory", NULL);
     strcpy(copy, line);
     for (word[0] = strtok(copy, " "); n < 7 && word[n]; word[++n] = strtok(NULL, " ")) {}
     if (n == 0 || word[0][0] < 'a' || word[0][0] > 'z') return 0;
