@@ -188,7 +188,7 @@ static inline uint32_t gd_query_start(struct gurtheddu *deck, uint32_t lane, uin
 /* Makes up to `budget` steps of the query in a lane, ended by the first number that is not 0, and gives the last number:
  * 0, 20, 22, or 1, 3, 9, 12. `made` is the number of steps that were made; a step that was refused or held is none.
  * A query has a step for each cell that the rectangle touches, and one for each tuple and each bucket found there.
- * Each step at most one look-up in the list so far, of 256 turns. */
+ * Each step at most two passes over the list so far, of 256 turns each. */
 static inline uint32_t gd_query_run(struct gurtheddu *deck, uint32_t lane, uint32_t budget, uint32_t *made)
 {
     return gurtheddu_query_run(deck->queries, lane, budget, made, deck->words, deck->times);
