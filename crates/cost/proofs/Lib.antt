@@ -9,6 +9,7 @@ pub mod Live
 pub mod Match
 pub mod Queries
 pub mod Rel
+pub mod Rewound
 pub mod Settled
 pub mod Start
 pub mod Started

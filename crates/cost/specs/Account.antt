@@ -16,7 +16,7 @@ use Rattle.layout.specs.declared.question.Question.{Question}
 use Rattle.cells.specs.Walk.{chainOf, tuplesIn}
 use Rattle.calls.specs.Call.{acceptedNumber}
 use Rattle.base.specs.Sums.{bit, countBelow}
-use Rattle.grid.specs.Run.{Grid, Call, startUpdate, stepUpdate, startQuery, stepQuery, collect, Answer, answerOf, call, emptyGrid}
+use Rattle.grid.specs.Run.{Grid, Call, startUpdate, stepUpdate, startQuery, stepQuery, collect, rewind, Answer, answerOf, call, emptyGrid}
 
 -- ---- WHAT HAPPENED
 -- the tables of cells, locks and buckets: first bucket and lock of each cell, count and next bucket of each bucket
@@ -75,6 +75,7 @@ accepted (stepUpdate l) n = deedOf none (pick (eqb n FINISHED) (some l) none) no
 accepted (startQuery l u) n = deedOf none none (some (l, u)) none none
 accepted (stepQuery l) n = deedOf none none none (some (l, n)) none
 accepted (collect l m) n = deedOf none none none none (some l)
+accepted rewind n = deedOf none none none none none
 
 -- f of what is there, or else x
 unfoldable pub onlyIf : {A B : Type 0} → Option A → (A → B) → B → B

@@ -6,7 +6,7 @@ use Rattle.stage.specs.declared.Stage.the-variants.{Idle}
 use Rattle.query.specs.declared.Scan.the-variants.{Idle as IdleQuery}
 use Rattle.updates.specs.Update.{idleUpdater, idleUpdaters}
 use Rattle.queries.specs.Query.{idleQuery, idleQueries}
-use Rattle.grid.specs.Run.{Grid, Call, startUpdate, stepUpdate, startQuery, stepQuery, collect, call, run, answers, emptyGrid}
+use Rattle.grid.specs.Run.{Grid, Call, startUpdate, stepUpdate, startQuery, stepQuery, collect, rewind, call, run, answers, emptyGrid}
 use Rattle.runs.specs.Sweeps.{query}
 use Rattle.runs.proofs.Empty.{all-same, empty-good, empty-unknown}
 use Rattle.runs.proofs.Runs.{call-good}
@@ -17,6 +17,7 @@ use Rattle.freshness.specs.History.{Event, eventOf, recall, events, past
 use Rattle.freshness.proofs.Fine.{Fresh, Fine}
 use Rattle.freshness.proofs.Past.{Valid}
 use Rattle.freshness.proofs.Queries.{query-fresh}
+use Rattle.freshness.proofs.Rewound.{rewind-fresh}
 use Rattle.freshness.proofs.Starting.{start-fresh, query-start-fresh, collect-fresh}
 use Rattle.freshness.proofs.Stepping.{update-fresh}
 
@@ -59,6 +60,7 @@ call-fresh (stepUpdate l) g es F = update-fresh g (F .good) es (F .fresh) l
 call-fresh (startQuery q u) g es F = query-start-fresh g (F .good .shape) es (F .fresh) q u
 call-fresh (stepQuery q) g es F = query-fresh g (F .good) es (F .fresh) q
 call-fresh (collect q n) g es F = collect-fresh g (F .good) es (F .fresh) q n
+call-fresh rewind g es F = rewind-fresh g es F
 
 pub call-fine : (c : Call) (g : Grid) (es : List Event) → Fine es g → Fine (recall (eventOf c (call c g .0 .number)) es) (call c g .1)
 call-fine c g es F = record { good = call-good c g (F .good) .1; fresh = call-fresh c g es F }

@@ -13,6 +13,7 @@ pub mod Nests
 pub mod Paper
 pub mod Past
 pub mod Queries
+pub mod Rewound
 pub mod SameHistory
 pub mod Settled
 pub mod Standing

@@ -12,7 +12,7 @@ use Rattle.base.specs.Numbers.{FINISHED}
 use Rattle.base.specs.Outcome.{pick}
 use Rattle.layout.specs.declared.question.Question.{Question}
 use Rattle.calls.specs.Call.{acceptedNumber}
-use Rattle.grid.specs.Run.{Call, startUpdate, stepUpdate, startQuery, stepQuery, collect, Answer, answers, emptyGrid}
+use Rattle.grid.specs.Run.{Call, startUpdate, stepUpdate, startQuery, stepQuery, collect, rewind, Answer, answers, emptyGrid}
 use Rattle.base.specs.Spot.{Spot, Hit, hit}
 
 -- ---- events
@@ -37,6 +37,7 @@ eventOf (stepUpdate l) n = pick (eqb n FINISHED) (some (ends l)) none
 eventOf (startQuery q u) n = pick (refused n) none (some (asks q u))
 eventOf (stepQuery q) n = none
 eventOf (collect q m) n = none
+eventOf rewind n = none
 
 -- one event more, if there is one; the last stands first
 unfoldable pub recall : Option Event → List Event → List Event
@@ -146,6 +147,7 @@ takes q (stepUpdate l) n = false
 takes q (startQuery j u) n = false
 takes q (stepQuery j) n = false
 takes q (collect j m) n = eqb j q && acceptedNumber n
+takes q rewind n = false
 
 -- none of the calls, with their answers, is one
 unfoldable pub uncollected : ℕ → List Call → List Answer → Bool

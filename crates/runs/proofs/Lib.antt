@@ -18,6 +18,7 @@ pub mod Parts
 pub mod Quiet
 pub mod Reached
 pub mod Runs
+pub mod Rewound
 pub mod SameBut
 pub mod Scanned
 pub mod Scans

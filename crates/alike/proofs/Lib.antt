@@ -1,0 +1,5 @@
+pub mod Calls
+pub mod Like
+pub mod Scans
+pub mod Stages
+pub mod Wound
