@@ -73,3 +73,7 @@ CORRUPT = 12
 -- unreadable line: the script program only
 abbrev pub UNREADABLE : ℕ
 UNREADABLE = 13
+
+-- deck in motion: a report under way, or a sweep lane that is not idle (document 02, request a)
+abbrev pub BUSY : ℕ
+BUSY = 30

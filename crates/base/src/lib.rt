@@ -64,6 +64,8 @@ pub const CORRUPT: u32 = 12;
 
 pub const UNREADABLE: u32 = 13;
 
+pub const BUSY: u32 = 30;
+
 // A change of the tables: refused as corrupt, or done.
 pub enum Change {
     Corrupt,

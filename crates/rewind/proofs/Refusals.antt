@@ -5,37 +5,22 @@ use mathlib.Core.Path.{_≡_, refl, ap, _∙_}
 use mathlib.Core.Logic.{_≢_}
 use mathlib.Core.Bool.{true}
 use mathlib.Core.List.{List}
-use Prim.Native.Nat.{ℕ, suc, _<_, _≤_}
+use Prim.Native.Nat.{ℕ}
 use native.Mathlib.Omega.{arith}
-use lib.IntN.{ℤ, pos, negsuc}
-use lib.ListN.{getD}
+use lib.IntN.{ℤ}
 use Rattle.stage.specs.declared.Updater.{Updater}
 use Rattle.query.specs.declared.Query.{Query}
-use Rattle.tables.specs.Tables.{Tables, withTimes, withClock}
-use Rattle.calls.specs.Call.{answered, After, after}
+use Rattle.tables.specs.Tables.{Tables}
+use Rattle.calls.specs.Call.{answered, After, after, Same}
 use Rattle.calls.specs.Causes.{firstCause}
-use Rattle.calls.proofs.Tests.{Same, number-unless, same-unless, past-unless}
-use Rattle.rest.specs.Rest.{atRest, AllIdle}
+use Rattle.calls.proofs.Tests.{number-unless, same-unless, past-unless}
+use Rattle.rest.specs.Rest.{atRest}
 use Rattle.rest.proofs.Facts.{at-rest-facts}
 use Rattle.rewind.specs.Causes.{rewindCauses}
+use Rattle.rewind.specs.Leaves.{stamp, WoundBack}
 use Rattle.rewind.specs.Rewind.{woundStamp, woundTables, rewindTables}
 use Rattle.rewind.proofs.Returns.{wound}
 use Rattle.rewind.proofs.Winding.{map-at, clock-above, clock-below}
-
--- the stamp of slot i, slots 0 to 3 of bucket 0 first
-abbrev stamp : Tables → ℕ → ℤ
-stamp t i = getD (t .tuples .time) i (pos 0)
-
--- What an accepted rewind leaves of the tables t: t′. It was at rest; in every slot a stamp above zero is 1, one below
--- zero −1, and zero stays; a clock above 1 is 1; nothing else is touched.
-pub record WoundBack (t : Tables) (us : List Updater) (qs : List Query) (t′ : Tables) : Type 0 where
-  pub resting : AllIdle us qs
-  pub above : (i n : ℕ) → stamp t i ≡ pos (suc n) → stamp t′ i ≡ pos 1
-  pub below : (i n : ℕ) → stamp t i ≡ negsuc n → stamp t′ i ≡ negsuc 0
-  pub never : (i : ℕ) → stamp t i ≡ pos 0 → stamp t′ i ≡ pos 0
-  pub clock : 1 < t .clock → t′ .clock ≡ 1
-  pub early : t .clock ≤ 1 → t′ .clock ≡ t .clock
-  pub rest : t′ ≡ withClock (withTimes t (t′ .tuples .time)) (t′ .clock)
 
 module _ (t : Tables) (us : List Updater) (qs : List Query) where
   -- an answer has its number

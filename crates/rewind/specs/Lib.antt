@@ -1,3 +1,4 @@
 pub mod Causes
+pub mod Leaves
 pub mod Promise
 pub mod Rewind

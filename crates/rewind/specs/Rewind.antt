@@ -5,6 +5,7 @@ use mathlib.Core.List.{List, map}
 use Prim.Native.Nat.{ℕ, zero, suc}
 use lib.Dec.{ltb}
 use lib.IntN.{ℤ, pos, negsuc}
+use Rattle.base.specs.Numbers.{DONE, CORRUPT, BUSY}
 use Rattle.base.specs.Outcome.{pick}
 use Rattle.stage.specs.declared.Updater.{Updater}
 use Rattle.query.specs.declared.Query.{Query}
@@ -28,4 +29,4 @@ woundTables t = withClock (withTimes t (map woundStamp (t .tuples .time))) (woun
 -- A REWIND: 12 for a wrong length, 30 for a grid that is not at rest (document 02: deck in motion); else 0, and the
 -- tables are wound back. The lanes are looked at, and stay.
 unfoldable pub rewindTables : Tables → List Updater → List Query → Result (Unit {0})
-rewindTables t us qs = unless (rightLengths t) 12 (unless (atRest us qs) 30 (answered 0 (woundTables t) tt))
+rewindTables t us qs = unless (rightLengths t) CORRUPT (unless (atRest us qs) BUSY (answered DONE (woundTables t) tt))

@@ -3,6 +3,9 @@ ghost use Rattle.tables.specs.Promise.{OnGrid};
 ghost use Rattle.rewind.specs.Promise.{Rewinds};
 use crate::clock::wind_clock;
 use crate::stamps::wind_stamps;
+use base::BUSY;
+use base::CORRUPT;
+use base::DONE;
 use query::Query;
 use rest::at_rest;
 use stage::Updater;
@@ -20,13 +23,13 @@ pub fn rewind(
     ensures { λ r. ⌜ OnGrid words times (Rewinds updaters queries r) ⌝ }
 {
     if !right_words(words.len(), times.len()) {
-        return 12;
+        return CORRUPT;
     }
     if !at_rest(updaters, queries) {
-        return 30;
+        return BUSY;
     }
     wind_stamps(times);
     let clock = words[CLOCK];
     words[CLOCK] = wind_clock(clock);
-    0
+    DONE
 }
