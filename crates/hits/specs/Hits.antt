@@ -3,7 +3,7 @@
 use mathlib.Core.Path.{_≡_}
 use mathlib.Core.Option.{Option, none, some}
 use mathlib.Core.List.{List, []}
-use Prim.Native.Nat.{ℕ, zero, suc, _+_, _*_}
+use Prim.Native.Nat.{ℕ, zero, suc, _+_, _*_, _-_}
 use lib.Dec.{eqb, ltb, leb}
 use lib.ListN.{set}
 use Rattle.base.specs.Numbers.{DONE, CORRUPT}
@@ -14,6 +14,7 @@ use Rattle.words.specs.Part.{part}
 use Rattle.slots.specs.declared.tuple.Seen.{Seen}
 use Rattle.hits.specs.declared.Listed.{Listed}
 use Rattle.hits.specs.declared.Listed.the-variants.{Missing, At}
+use Rattle.hits.specs.declared.Lookup.{Lookup}
 use Rattle.hits.specs.declared.Noted.{Noted}
 use Rattle.hits.specs.declared.Noted.the-variants.{Corrupt, Size}
 
@@ -38,6 +39,12 @@ unfoldable pub lookFrom : List ℕ → ℕ → ℕ → ℕ → Option ℕ
 lookFrom l k zero i = none
 lookFrom l k (suc n) i = pick (eqb (at l i) k) (some i) (lookFrom l k n (suc i))
 
+-- How many of n entries from i on a look-up looks at, by what it finds:
+-- up to and with the match, or all if there is none.
+unfoldable pub lookedAt : Option ℕ → ℕ → ℕ → ℕ
+lookedAt (some j) n i = j - i + 1
+lookedAt none n i = n
+
 abbrev pub listedValues : Option ℕ → List ℕ
 listedValues none = []
 listedValues (some i) = one i
@@ -46,6 +53,10 @@ listedValues (some i) = one i
 abbrev pub listedSays : Listed → Told
 listedSays Missing = says DONE []
 listedSays (At i) = says DONE (one i)
+
+-- the promise of a look-up in n entries from i on that finds o: the entry, and how many it looked at
+abbrev pub Finds : Option ℕ → ℕ → ℕ → Lookup → Type 0
+Finds o n i r = (says 0 (listedValues o) ≡ listedSays (r .listed)) × (r .looked ≡ lookedAt o n i)
 
 -- the lists, and the size of the query's own
 pub record Listing : Type 0 where

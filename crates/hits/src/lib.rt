@@ -4,8 +4,7 @@ ghost use mathlib.Core.Path.{_≡_};
 ghost use Prim.Native.Nat.{_<_, _≤_, _+_};
 ghost use lib.ListN.{length};
 ghost use Rattle.base.specs.Lent.{old, new};
-ghost use Rattle.base.specs.Outcome.{says};
-ghost use Rattle.hits.specs.Hits.{hitsAt, putHit, lookFrom, listedValues, listedSays, note, Notes};
+ghost use Rattle.hits.specs.Hits.{hitsAt, putHit, lookFrom, Finds, note, Notes};
 ghost use Rattle.words.specs.Map.{HITS-SIZE};
 use slots::tuple::Seen;
 use words::HIT_XS;
@@ -23,23 +22,34 @@ pub enum Noted {
     Size(u32),
 }
 
-// Looks an object up in size entries from one on. It goes past all of them, from the last to the first, so that the first that matches is meant.
-pub fn find_hit(hits: &[u32], from: usize, size: usize, oid: u32) -> Listed
+// What a look-up hands back: where the object stands, and how many entries were looked at.
+pub struct Lookup {
+    pub listed: Listed,
+    pub looked: usize,
+}
+
+// Looks an object up in size entries from one on. It ends at the first that matches.
+pub fn find_hit(hits: &[u32], from: usize, size: usize, oid: u32) -> Lookup
     requires { ⌜ (length (now hits) ≡ 1024) × (from + size ≤ 1024) ⌝ }
-    ensures { λ r. ⌜ says 0 (listedValues (lookFrom (old hits) oid size from)) ≡ listedSays r ⌝ }
+    ensures { λ r. ⌜ Finds (lookFrom (old hits) oid size from) size from r ⌝ }
 {
-    let mut found: usize = 1024;
-    let mut left = size;
-    while left > 0 {
-        left -= 1;
-        if hits[from + left] == oid {
-            found = from + left;
+    let mut passed: usize = 0;
+    let at = loop {
+        if passed >= size {
+            return Lookup {
+                listed: Listed::Missing,
+                looked: passed,
+            };
         }
+        if hits[from + passed] == oid {
+            break from + passed;
+        }
+        passed += 1;
+    };
+    Lookup {
+        listed: Listed::At(at),
+        looked: passed + 1,
     }
-    if found == 1024 {
-        return Listed::Missing;
-    }
-    Listed::At(found)
 }
 
 // Writes a tuple's object and place over an entry.
@@ -61,7 +71,8 @@ pub fn note_tuple(list: &mut [u32], lane: u32, size: u32, t: Seen) -> Noted
         return Noted::Corrupt;
     }
     let from = (256 * lane) as usize;
-    let listed = find_hit(&list[0..HIT_XS], from, size as usize, t.oid);
+    let found = find_hit(&list[0..HIT_XS], from, size as usize, t.oid);
+    let listed = found.listed;
     let Listed::At(i) = listed else {
         if size >= 256 {
             return Noted::Corrupt;

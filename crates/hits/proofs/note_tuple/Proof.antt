@@ -53,7 +53,7 @@ returns-2 c =
     let at-if1 = at-find-hit .before .before .before in
     let s = at-if1 .before .before in
     rw (note-full (lists s) _ _ (s .args .t) (at-if1 .if1 .left)
-    (listed-none (lookFrom _ _ _ _) (at-find-hit .find-hit .ensures) (c .before .enum-told .given .1))
+    (listed-none (lookFrom _ _ _ _) (at-find-hit .find-hit .ensures .0) (c .before .enum-told .given .1))
     (c .if2 .taken))
 
 add-put-hit : tie.Need-add-put-hit
@@ -62,8 +62,8 @@ add-put-hit c = search needs
 put-hit-requires : tie.Need-put-hit-requires
 put-hit-requires c κs = search needs
 
-add-t21 : tie.Need-add-t21
-add-t21 c = search needs
+add-t22 : tie.Need-add-t22
+add-t22 c = search needs
 
 same-length-2 : tie.Need-same-length-2
 same-length-2 c = search needs
@@ -78,7 +78,7 @@ returns-3 c =
     let s = at-if1 .before .before in
     rw (
       note-added (lists s) _ _ (s .args .t) (at-if1 .if1 .left)
-          (listed-none (lookFrom _ _ _ _) (at-find-hit .find-hit .ensures) (at-enum-told .enum-told .given .1))
+          (listed-none (lookFrom _ _ _ _) (at-find-hit .find-hit .ensures .0) (at-enum-told .enum-told .given .1))
           (at-if2 .if2 .left),
       c .before .before .put-hit .ensures,
     )
@@ -93,7 +93,7 @@ returns-4 c =
     let at-if1 = at-find-hit .before .before .before in
     let s = at-if1 .before .before in
     rw (note-kept (lists s) _ _ (s .args .t) (at-if1 .if1 .left) _
-    (listed-at (lookFrom _ _ _ _) (at-find-hit .find-hit .ensures) _ (c .before .before .listed .given .1))
+    (listed-at (lookFrom _ _ _ _) (at-find-hit .find-hit .ensures .0) _ (c .before .before .listed .given .1))
     (c .if3 .taken))
 
 put-hit-requires-2 : tie.Need-put-hit-requires-2
@@ -104,7 +104,7 @@ put-hit-requires-2 c κs =
       s .pre .0,
       omega (
         arith,
-        look-within _ _ _ _ _ (listed-at (lookFrom _ _ _ _) (at-find-hit .find-hit .ensures) _
+        look-within _ _ _ _ _ (listed-at (lookFrom _ _ _ _) (at-find-hit .find-hit .ensures .0) _
             (at-listed .listed .given .1)),
       ),
     )
@@ -122,7 +122,7 @@ returns-5 c =
     let s = at-if1 .before .before in
     rw (
       note-replaced (lists s) _ _ (s .args .t) (at-if1 .if1 .left) _
-          (listed-at (lookFrom _ _ _ _) (at-find-hit .find-hit .ensures) _ (at-listed .listed .given .1))
+          (listed-at (lookFrom _ _ _ _) (at-find-hit .find-hit .ensures .0) _ (at-listed .listed .given .1))
           (at-if3 .if3 .left),
       c .before .before .put-hit2 .ensures,
     )
@@ -144,7 +144,7 @@ note-tuple-spec =
     returns-2
     add-put-hit
     put-hit-requires
-    add-t21
+    add-t22
     same-length-2
     returns-3
     same-length-3
