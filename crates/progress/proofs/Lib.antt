@@ -1,0 +1,5 @@
+pub mod Held
+pub mod Ranks
+pub mod Rounds
+pub mod Still
+pub mod Theorems

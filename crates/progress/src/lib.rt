@@ -1,0 +1,1 @@
+// Some step is never held: see specs and proofs. No function.
