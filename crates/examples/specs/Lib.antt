@@ -1,1 +1,3 @@
+pub mod Still
 pub mod Trials
+pub mod Turns
