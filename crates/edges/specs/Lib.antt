@@ -1,2 +1,4 @@
 pub mod Claims
 pub mod Rewinds
+pub mod Still
+pub mod Turns

@@ -1,3 +1,1 @@
-pub mod Still
 pub mod Trials
-pub mod Turns

@@ -18,7 +18,7 @@ use Rattle.stage.specs.declared.Stage.the-variants.{TakeObject, LockCell}
 use Rattle.stage.specs.declared.Updater.{Updater}
 use Rattle.updates.specs.Update.{idleUpdater}
 use Rattle.queries.specs.Query.{idleQuery}
-use Rattle.examples.specs.Still.{swapped, turns, openedHere}
+use Rattle.edges.specs.Still.{swapped, turns, openedHere}
 
 -- ---- equal lists, by a test
 
