@@ -5,6 +5,7 @@ ghost use Rattle.tables.specs.Promise.{OnGrid};
 use crate::list_lines::list_line;
 use crate::query_lines::query_line;
 use crate::update_lines::update_line;
+use base::UNREADABLE;
 use query::Query;
 use script::line::Line;
 use script::parse::parse;
@@ -45,7 +46,7 @@ pub fn line_step(
 {
     let command = parse(line);
     match command {
-        Line::Unreadable => plain_step(13, updaters, queries),
+        Line::Unreadable => plain_step(UNREADABLE, updaters, queries),
         Line::Update(u) => {
             let stepped = update_line(u, updaters, words, times);
             let updaters = stepped.updaters;
