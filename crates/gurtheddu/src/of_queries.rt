@@ -1,8 +1,12 @@
 // The calls of range queries (document 01: sweep start, sweep steps in a row, collection).
+ghost use Rattle.tables.specs.Promise.{OnGrid};
+ghost use Rattle.queries.specs.Query.{questionOf};
+ghost use Rattle.gurtheddu.specs.Promise.{StartsSweep, RunsSweep, CollectsFrom};
 use crate::query_lane::LAST_SCAN;
 use crate::query_lane::QUERY_NUMBERS;
 use crate::query_lane::SCAN_AT;
 use crate::query_lane::load_query;
+use crate::query_lane::seen_query;
 use crate::query_lane::store_begun;
 use crate::query_lane::store_idle;
 use crate::query_lane::store_query;
@@ -11,8 +15,6 @@ use collect::whole::collect_one;
 use layout::question::Question;
 use layout::question::first_cell;
 use queries::start::start_one;
-use query::Query;
-use query::Scan;
 use query_run::run_query;
 
 // Starts a query of a rectangle, given by its lower and its upper corner. Gives 0, or is refused with 1, 12 (the lane's number is none), 2, 5, 6 or 8.
@@ -26,7 +28,9 @@ pub extern "C" fn gurtheddu_query_start(
     y1: u32,
     words: &mut [u32; 13826],
     times: &[i32; 2048],
-) -> u32 {
+) -> u32
+    ensures { λ r. ⌜ OnGrid words times (StartsSweep queries lane (questionOf x0 y0 x1 y1) r) ⌝ }
+{
     if lane >= QUERY_COUNT {
         return 1;
     }
@@ -35,18 +39,9 @@ pub extern "C" fn gurtheddu_query_start(
     if stage > LAST_SCAN {
         return 12;
     }
-    if stage != 0 {
-        return 2;
-    }
     let question = Question { x0, y0, x1, y1 };
-    let idle = Query {
-        question,
-        stamp: 0,
-        hits: 0,
-        steps: 0,
-        stage: Scan::Idle,
-    };
-    let one = start_one(idle, lane, x0, y0, x1, y1, words, times);
+    let p = seen_query(stage);
+    let one = start_one(p, lane, x0, y0, x1, y1, words, times);
     if one.number != 0 {
         return one.number;
     }
@@ -66,7 +61,9 @@ pub extern "C" fn gurtheddu_query_run(
     made: &mut u32,
     words: &mut [u32; 13826],
     times: &[i32; 2048],
-) -> u32 {
+) -> u32
+    ensures { λ r. ⌜ OnGrid words times (RunsSweep queries lane budget made r) ⌝ }
+{
     *made = 0;
     if budget == 0 {
         return 0;
@@ -100,7 +97,9 @@ pub extern "C" fn gurtheddu_collect(
     filled: &mut u32,
     words: &[u32; 13826],
     times: &[i32; 2048],
-) -> u32 {
+) -> u32
+    ensures { λ r. ⌜ OnGrid words times (CollectsFrom queries lane out steps filled r) ⌝ }
+{
     *steps = 0;
     *filled = 0;
     if lane >= QUERY_COUNT {
@@ -112,14 +111,11 @@ pub extern "C" fn gurtheddu_collect(
     }
     let q = load_query(queries, at);
     let done = collect_one(q, lane, out, words, times);
+    *steps = done.steps;
+    *filled = done.filled as u32;
     if done.number != 0 {
         return done.number;
     }
-    if q.hits > 256 {
-        return 12;
-    }
-    *steps = done.steps;
-    *filled = 3 * q.hits;
     store_idle(queries, at);
     0
 }

@@ -1,13 +1,14 @@
 // The calls of updates (document 01: report start, and report steps in a row).
+ghost use Rattle.tables.specs.Promise.{OnGrid};
+ghost use Rattle.gurtheddu.specs.Promise.{StartsUpdate, RunsUpdate};
 use crate::update_lane::LAST_STAGE;
 use crate::update_lane::STAGE_AT;
 use crate::update_lane::UPDATER_NUMBERS;
 use crate::update_lane::load_updater;
+use crate::update_lane::seen_updater;
 use crate::update_lane::store_started;
 use crate::update_lane::store_updater;
 use base::UPDATER_COUNT;
-use stage::Stage;
-use stage::Updater;
 use update_run::run_update;
 use updates::start::start_one;
 
@@ -21,7 +22,9 @@ pub extern "C" fn gurtheddu_update_start(
     y: u32,
     words: &mut [u32; 13826],
     times: &[i32; 2048],
-) -> u32 {
+) -> u32
+    ensures { λ r. ⌜ OnGrid words times (StartsUpdate updaters lane oid x y r) ⌝ }
+{
     if lane >= UPDATER_COUNT {
         return 1;
     }
@@ -30,16 +33,8 @@ pub extern "C" fn gurtheddu_update_start(
     if stage > LAST_STAGE {
         return 12;
     }
-    if stage != 0 {
-        return 2;
-    }
-    let idle = Updater {
-        oid: 0,
-        x: 0,
-        y: 0,
-        stage: Stage::Idle,
-    };
-    let one = start_one(idle, lane, oid, x, y, words, times);
+    let u = seen_updater(stage);
+    let one = start_one(u, lane, oid, x, y, words, times);
     if one.number != 0 {
         return one.number;
     }
@@ -57,7 +52,9 @@ pub extern "C" fn gurtheddu_update_run(
     made: &mut u32,
     words: &mut [u32; 13826],
     times: &mut [i32; 2048],
-) -> u32 {
+) -> u32
+    ensures { λ r. ⌜ OnGrid words times (RunsUpdate updaters lane budget made r) ⌝ }
+{
     *made = 0;
     if budget == 0 {
         return 0;

@@ -1,6 +1,16 @@
 // A lane of a query in eleven numbers: x0, y0, x1, y1, stamp, hits, steps, number of what comes next (0 idle, 1 enter a cell, 2 read, 3 finished), cell,
 // bucket, slots left. What does not come next is 0.
+ghost use mathlib.Core.Path.{_≡_};
 ghost use Prim.Native.Nat.{_≤_};
+ghost use Rattle.base.specs.Lent.{new, old};
+ghost use lib.Dec.{eqb};
+ghost use lib.Seq.{sets};
+ghost use Rattle.words.specs.Part.{part};
+ghost use Rattle.queries.specs.Query.{isIdle};
+ghost use Rattle.query.specs.Scan.{queryOf};
+ghost use Rattle.query.specs.declared.Scan.the-variants.{Enter};
+ghost use Rattle.collect.specs.Collect.{idled};
+ghost use Rattle.gurtheddu.specs.Queries.{codeScan, scanOf, codeQuery, decodeQuery};
 use layout::question::Question;
 use query::Query;
 use query::Scan;
@@ -21,7 +31,9 @@ pub struct ScanCode {
 }
 
 // The numbers of what comes next.
-fn code_scan(s: Scan) -> ScanCode {
+fn code_scan(s: Scan) -> ScanCode
+    ensures { λ r. ⌜ r ≡ codeScan s ⌝ }
+{
     let none = Standing { bucket: 0, left: 0 };
     match s {
         Scan::Idle => ScanCode {
@@ -44,7 +56,9 @@ fn code_scan(s: Scan) -> ScanCode {
 }
 
 // What comes next by its number, with what it carries. A number that names nothing is not given.
-fn scan_of(stage: u32, cell: u32, at: Standing) -> Scan {
+fn scan_of(stage: u32, cell: u32, at: Standing) -> Scan
+    ensures { λ r. ⌜ r ≡ scanOf stage cell at ⌝ }
+{
     match stage {
         1 => Scan::Enter(cell),
         2 => Scan::Read(cell, at),
@@ -53,9 +67,38 @@ fn scan_of(stage: u32, cell: u32, at: Standing) -> Scan {
     }
 }
 
+// A query that is idle exactly if the number of what comes next says so: all that a start looks at.
+pub fn seen_query(stage: u32) -> Query
+    ensures { λ r. ⌜ isIdle (r .stage) ≡ eqb stage 0 ⌝ }
+{
+    let question = Question {
+        x0: 0,
+        y0: 0,
+        x1: 0,
+        y1: 0,
+    };
+    if stage == 0 {
+        return Query {
+            question,
+            stamp: 0,
+            hits: 0,
+            steps: 0,
+            stage: Scan::Idle,
+        };
+    }
+    Query {
+        question,
+        stamp: 0,
+        hits: 0,
+        steps: 0,
+        stage: Scan::Finished,
+    }
+}
+
 // The query whose numbers begin there.
 pub fn load_query(lanes: &[u32; 44], at: usize) -> Query
     requires { ⌜ at ≤ 33 ⌝ }
+    ensures { λ r. ⌜ r ≡ decodeQuery (part at 11 (old lanes)) ⌝ }
 {
     let question = Question {
         x0: lanes[at],
@@ -80,6 +123,7 @@ pub fn load_query(lanes: &[u32; 44], at: usize) -> Query
 // Stores the numbers of a query from there on.
 pub fn store_query(lanes: &mut [u32; 44], at: usize, q: Query)
     requires { ⌜ at ≤ 33 ⌝ }
+    ensures { λ r. ⌜ new lanes ≡ sets (old lanes) at (codeQuery q) ⌝ }
 {
     let question = q.question;
     let s = q.stage;
@@ -101,6 +145,7 @@ pub fn store_query(lanes: &mut [u32; 44], at: usize, q: Query)
 // Stores the numbers of a query that was just started: about to enter its first cell.
 pub fn store_begun(lanes: &mut [u32; 44], at: usize, question: Question, stamp: u32, cell: u32)
     requires { ⌜ at ≤ 33 ⌝ }
+    ensures { λ r. ⌜ new lanes ≡ sets (old lanes) at (codeQuery (queryOf question stamp 0 0 (Enter cell))) ⌝ }
 {
     lanes[at] = question.x0;
     lanes[at + 1] = question.y0;
@@ -118,6 +163,7 @@ pub fn store_begun(lanes: &mut [u32; 44], at: usize, question: Question, stamp: 
 // Makes the query whose numbers begin there idle.
 pub fn store_idle(lanes: &mut [u32; 44], at: usize)
     requires { ⌜ at ≤ 33 ⌝ }
+    ensures { λ r. ⌜ new lanes ≡ sets (old lanes) at (codeQuery (idled (decodeQuery (part at 11 (old lanes))))) ⌝ }
 {
     lanes[at + SCAN_AT] = 0;
     lanes[at + 8] = 0;

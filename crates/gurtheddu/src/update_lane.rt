@@ -1,6 +1,13 @@
 // A lane of an update in nine numbers: object, x, y, number of the stage (0 idle, 1 to 14 as document 01 counts them), cell, bucket and slot of the place,
 // the object that moves, the unlinked bucket. What a stage does not carry is 0.
+ghost use mathlib.Core.Path.{_≡_};
 ghost use Prim.Native.Nat.{_≤_};
+ghost use Rattle.base.specs.Lent.{new, old};
+ghost use lib.Dec.{eqb};
+ghost use lib.Seq.{sets};
+ghost use Rattle.words.specs.Part.{part};
+ghost use Rattle.stage.specs.Turn.{isIdle};
+ghost use Rattle.gurtheddu.specs.Updaters.{stageCode, codeStage, stageOf, codeUpdater, decodeUpdater, startedUpdater};
 use layout::place::Place;
 use stage::Stage;
 use stage::Updater;
@@ -21,7 +28,9 @@ pub struct StageCode {
 }
 
 // A stage that carries no more than a place.
-fn plain(stage: u32, place: Place) -> StageCode {
+fn plain(stage: u32, place: Place) -> StageCode
+    ensures { λ r. ⌜ r ≡ stageCode stage place 0 0 ⌝ }
+{
     StageCode {
         stage,
         place,
@@ -31,7 +40,9 @@ fn plain(stage: u32, place: Place) -> StageCode {
 }
 
 // The numbers of a stage.
-fn code_stage(s: Stage) -> StageCode {
+fn code_stage(s: Stage) -> StageCode
+    ensures { λ r. ⌜ r ≡ codeStage s ⌝ }
+{
     let none = Place {
         cell: 0,
         bucket: 0,
@@ -77,7 +88,9 @@ fn code_stage(s: Stage) -> StageCode {
 }
 
 // The stage of a number, with what it carries. A number that names no stage is not given.
-fn stage_of(stage: u32, place: Place, moved: u32, bucket: u32) -> Stage {
+fn stage_of(stage: u32, place: Place, moved: u32, bucket: u32) -> Stage
+    ensures { λ r. ⌜ r ≡ stageOf stage place moved bucket ⌝ }
+{
     match stage {
         1 => Stage::TakeObject,
         2 => Stage::LockCell(place),
@@ -97,9 +110,30 @@ fn stage_of(stage: u32, place: Place, moved: u32, bucket: u32) -> Stage {
     }
 }
 
+// An update that is idle exactly if the number of its stage says so: all that a start looks at.
+pub fn seen_updater(stage: u32) -> Updater
+    ensures { λ r. ⌜ isIdle (r .stage) ≡ eqb stage 0 ⌝ }
+{
+    if stage == 0 {
+        return Updater {
+            oid: 0,
+            x: 0,
+            y: 0,
+            stage: Stage::Idle,
+        };
+    }
+    Updater {
+        oid: 0,
+        x: 0,
+        y: 0,
+        stage: Stage::TakeObject,
+    }
+}
+
 // The update whose numbers begin there.
 pub fn load_updater(lanes: &[u32; 72], at: usize) -> Updater
     requires { ⌜ at ≤ 63 ⌝ }
+    ensures { λ r. ⌜ r ≡ decodeUpdater (part at 9 (old lanes)) ⌝ }
 {
     let place = Place {
         cell: lanes[at + 4],
@@ -118,6 +152,7 @@ pub fn load_updater(lanes: &[u32; 72], at: usize) -> Updater
 // Stores the numbers of an update from there on.
 pub fn store_updater(lanes: &mut [u32; 72], at: usize, u: Updater)
     requires { ⌜ at ≤ 63 ⌝ }
+    ensures { λ r. ⌜ new lanes ≡ sets (old lanes) at (codeUpdater u) ⌝ }
 {
     let s = u.stage;
     let code = code_stage(s);
@@ -136,6 +171,7 @@ pub fn store_updater(lanes: &mut [u32; 72], at: usize, u: Updater)
 // Stores the numbers of an update that was just started.
 pub fn store_started(lanes: &mut [u32; 72], at: usize, oid: u32, x: u32, y: u32)
     requires { ⌜ at ≤ 63 ⌝ }
+    ensures { λ r. ⌜ new lanes ≡ sets (old lanes) at (codeUpdater (startedUpdater oid x y)) ⌝ }
 {
     lanes[at] = oid;
     lanes[at + 1] = x;

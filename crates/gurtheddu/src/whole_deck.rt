@@ -1,4 +1,6 @@
 // The empty grid (document 01: a fresh deck).
+ghost use Rattle.tables.specs.Promise.{OnGrid};
+ghost use Rattle.gurtheddu.specs.Promise.{ResetsDeck};
 use grid::reset::reset;
 use queries::lanes::idle_queries;
 use tables::fill::fill_numbers;
@@ -11,11 +13,16 @@ pub extern "C" fn gurtheddu_reset(
     queries: &mut [u32; 44],
     words: &mut [u32; 13826],
     times: &mut [i32; 2048],
-) -> u32 {
+) -> u32
+    ensures { λ r. ⌜ OnGrid words times (ResetsDeck updaters queries r) ⌝ }
+{
     let us = idle_updaters();
     let qs = idle_queries();
     let fresh = reset(us, qs, words, times);
+    if fresh.number != 0 {
+        return fresh.number;
+    }
     fill_numbers(updaters, 0);
     fill_numbers(queries, 0);
-    fresh.number
+    0
 }

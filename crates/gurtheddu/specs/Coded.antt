@@ -1,0 +1,96 @@
+-- THE OPERATIONS OVER CODED LANES: each is the operation in one lane on what the lane's numbers say, and the lane's numbers afterwards are those of the
+-- lane that it leaves; a refused call, and a run that carries out no step, leaves them as they are.
+-- A lane that is none comes first (1), then a number that names no stage (12): which of the other tests holds cannot be told without it.
+use mathlib.Core.List.{List}
+use Prim.Native.Nat.{ℕ}
+use lib.Dec.{eqb, ltb}
+use lib.ListN.{length, replicate}
+use Rattle.base.specs.Outcome.{pick}
+use Rattle.layout.specs.declared.question.Question.{Question}
+use Rattle.tables.specs.Tables.{Tables, rightLengths, emptyTables}
+use Rattle.calls.specs.Call.{Result, refused, answered, unless}
+use Rattle.calls.specs.Run.{Ran, ranOf}
+use Rattle.updates.specs.One.{startOne}
+use Rattle.update_run.specs.Run.{runOne}
+use Rattle.queries.specs.One.{startOne as startQuery}
+use Rattle.query_run.specs.Run.{runOne as runQuery}
+use Rattle.collect.specs.One.{FillingOne, collectOneInto}
+use Rattle.gurtheddu.specs.Updaters.{namesStage, updaterIn, withUpdater}
+use Rattle.gurtheddu.specs.Queries.{namesScan, queryIn, withQuery}
+
+-- what a call in one lane comes to, where `store` puts the lane's numbers in their place
+unfoldable pub coded : {L : Type 0} → (L → List ℕ) → Result L → Result (List ℕ)
+coded store (refused n) = refused n
+coded store (answered n t u) = answered n t (store u)
+
+-- the same of a run
+abbrev pub codedRun : {L : Type 0} → List ℕ → (L → List ℕ) → Ran L → Ran (List ℕ)
+codedRun ns store r = ranOf (r .number) (r .made) (r .tables) (pick (eqb (r .made) 0) ns (store (r .lanes)))
+
+-- A START of an update of object k, to stand at (x, y), in lane l.
+unfoldable pub startUpdate : Tables → List ℕ → ℕ → ℕ → ℕ → ℕ → Result (List ℕ)
+startUpdate t ns l k x y =
+    unless (ltb l 8) 1
+    (unless (namesStage ns l) 12
+    (coded (withUpdater ns l) (startOne t l (updaterIn ns l) k x y)))
+
+-- UP TO n STEPS of the update in lane l.
+unfoldable pub runUpdate : ℕ → ℕ → Tables → List ℕ → Ran (List ℕ)
+runUpdate n l t ns =
+    pick (eqb n 0) (ranOf 0 0 t ns)
+    (pick (ltb l 8)
+    (pick (namesStage ns l) (codedRun ns (withUpdater ns l) (runOne n l t (updaterIn ns l))) (ranOf 12 0 t ns))
+    (ranOf 1 0 t ns))
+
+-- A START of a query with the question u in lane l.
+unfoldable pub startSweep : Tables → List ℕ → ℕ → Question → Result (List ℕ)
+startSweep t ns l u =
+    unless (ltb l 4) 1
+    (unless (namesScan ns l) 12
+    (coded (withQuery ns l) (startQuery t l (queryIn ns l) u)))
+
+-- UP TO n STEPS of the query in lane l.
+unfoldable pub runSweep : ℕ → ℕ → Tables → List ℕ → Ran (List ℕ)
+runSweep n l t ns =
+    pick (eqb n 0) (ranOf 0 0 t ns)
+    (pick (ltb l 4)
+    (pick (namesScan ns l) (codedRun ns (withQuery ns l) (runQuery n l t (queryIn ns l))) (ranOf 12 0 t ns))
+    (ranOf 1 0 t ns))
+
+-- what a collection comes to: the number, the tables and the lanes afterwards, the steps, how many numbers are filled, and the lent list afterwards
+pub record HandedBack : Type 0 where
+  pub number : ℕ
+  pub tables : Tables
+  pub lanes : List ℕ
+  pub steps : ℕ
+  pub filled : ℕ
+  pub list : List ℕ
+
+abbrev pub handedBack : ℕ → Tables → List ℕ → ℕ → ℕ → List ℕ → HandedBack
+handedBack n t ns k f l = record { number = n; tables = t; lanes = ns; steps = k; filled = f; list = l }
+
+-- of a collection from one lane
+abbrev pub codedFilling : List ℕ → ℕ → FillingOne → HandedBack
+codedFilling ns l f =
+    handedBack (f .number) (f .tables) (pick (eqb (f .number) 0) (withQuery ns l (f .query)) ns) (f .steps) (f .filled) (f .list)
+
+-- A COLLECTION from lane l into the list out.
+unfoldable pub collectFrom : Tables → List ℕ → ℕ → List ℕ → HandedBack
+collectFrom t ns l out =
+    pick (ltb l 4)
+    (pick (namesScan ns l) (codedFilling ns l (collectOneInto t l (queryIn ns l) out)) (handedBack 12 t ns 0 0 out))
+    (handedBack 1 t ns 0 0 out)
+
+-- the numbers of both kinds of lanes
+pub record Lanes : Type 0 where
+  pub updaters : List ℕ
+  pub queries : List ℕ
+
+abbrev pub lanesOf : List ℕ → List ℕ → Lanes
+lanesOf us qs = record { updaters = us; queries = qs }
+
+-- A FRESH DECK: the empty grid, and every number of every lane 0, which is the code of an idle lane.
+unfoldable pub resetDeck : Tables → Lanes → Result Lanes
+resetDeck t ls =
+    unless (rightLengths t) 12
+    (answered 0 emptyTables (lanesOf (replicate (length (ls .updaters)) 0) (replicate (length (ls .queries)) 0)))

@@ -1,0 +1,4 @@
+pub mod Updaters
+pub mod Queries
+pub mod Coded
+pub mod Promise

@@ -1,0 +1,37 @@
+-- WHAT THE EXPORTS PROMISE, of the tables t as a call finds them and t′ as it leaves them, of the lanes' numbers and of what is handed back: all are those
+-- of the definition, for every content of the tables, the lanes and the list.
+use mathlib.Core.Path.{_≡_}
+use mathlib.Core.List.{List}
+use Prim.Native.Nat.{ℕ}
+use Rattle.base.specs.Lent.{Lent, old, new}
+use Rattle.layout.specs.declared.question.Question.{Question}
+use Rattle.tables.specs.Tables.{Tables}
+use Rattle.calls.specs.Call.{after, afterOf}
+use Rattle.calls.specs.Run.{ranOf}
+use Rattle.gurtheddu.specs.Coded.{startUpdate, runUpdate, startSweep, runSweep, collectFrom, handedBack, resetDeck, lanesOf}
+
+-- A START of an update of object k, to stand at (x, y), in lane l, gives n.
+abbrev pub StartsUpdate : Lent (List ℕ) → ℕ → ℕ → ℕ → ℕ → ℕ → Tables → Tables → Type 0
+StartsUpdate ns l k x y n t t′ = after t (old ns) (startUpdate t (old ns) l k x y) ≡ afterOf n t′ (new ns)
+
+-- A RUN of up to b steps of the update in lane l gives n.
+abbrev pub RunsUpdate : Lent (List ℕ) → ℕ → ℕ → Lent ℕ → ℕ → Tables → Tables → Type 0
+RunsUpdate ns l b made n t t′ = runUpdate b l t (old ns) ≡ ranOf n (new made) t′ (new ns)
+
+-- A START of a query with the question u in lane l gives n.
+abbrev pub StartsSweep : Lent (List ℕ) → ℕ → Question → ℕ → Tables → Tables → Type 0
+StartsSweep ns l u n t t′ = after t (old ns) (startSweep t (old ns) l u) ≡ afterOf n t′ (new ns)
+
+-- A RUN of up to b steps of the query in lane l gives n.
+abbrev pub RunsSweep : Lent (List ℕ) → ℕ → ℕ → Lent ℕ → ℕ → Tables → Tables → Type 0
+RunsSweep ns l b made n t t′ = runSweep b l t (old ns) ≡ ranOf n (new made) t′ (new ns)
+
+-- A COLLECTION from lane l into a list that is lent gives n.
+abbrev pub CollectsFrom : Lent (List ℕ) → ℕ → Lent (List ℕ) → Lent ℕ → Lent ℕ → ℕ → Tables → Tables → Type 0
+CollectsFrom ns l out steps filled n t t′ =
+    collectFrom t (old ns) l (old out) ≡ handedBack n t′ (new ns) (new steps) (new filled) (new out)
+
+-- A RESET gives n.
+abbrev pub ResetsDeck : Lent (List ℕ) → Lent (List ℕ) → ℕ → Tables → Tables → Type 0
+ResetsDeck us qs n t t′ =
+    after t (lanesOf (old us) (old qs)) (resetDeck t (lanesOf (old us) (old qs))) ≡ afterOf n t′ (lanesOf (new us) (new qs))
