@@ -5,6 +5,7 @@ use mathlib.Core.List.{List, []}
 use Prim.Native.Nat.{ℕ, _*_}
 use lib.Dec.{ltb, leb}
 use lib.ListN.{length, set}
+use Rattle.base.specs.Numbers.{DONE, NO-SUCH-LANE, LANE-IDLE, QUERY-UNFINISHED, SHORT-OUTPUT, CORRUPT}
 use Rattle.query.specs.declared.Query.{Query}
 use Rattle.tables.specs.Tables.{Tables, rightLengths}
 use Rattle.calls.specs.Call.{Result, answered, After, after, unless}
@@ -24,13 +25,13 @@ handedOneOf q k p = record { query = q; steps = k; part = p }
 -- Collect from lane l, where the query q is, into a list of n numbers.
 unfoldable pub collectOne : Tables → ℕ → Query → ℕ → Result HandedOne
 collectOne t l q n =
-    unless (rightLengths t) 12
-    (unless (ltb l 4) 1
-    (unless (not (isIdle (q .stage))) 3
-    (unless (isFinished (q .stage)) 10
-    (unless (leb (3 * q .hits) n) 11
-    (unless (leb (q .hits) 256) 12
-    (answered 0 t (handedOneOf (idled q) (q .steps) (entriesFrom (t .hits) (256 * l) (q .hits)))))))))
+    unless (rightLengths t) CORRUPT
+    (unless (ltb l 4) NO-SUCH-LANE
+    (unless (not (isIdle (q .stage))) LANE-IDLE
+    (unless (isFinished (q .stage)) QUERY-UNFINISHED
+    (unless (leb (3 * q .hits) n) SHORT-OUTPUT
+    (unless (leb (q .hits) 256) CORRUPT
+    (answered DONE t (handedOneOf (idled q) (q .steps) (entriesFrom (t .hits) (256 * l) (q .hits)))))))))
 
 -- the number, the tables and the query afterwards, the steps, how many numbers are filled, and the lent list afterwards
 pub record FillingOne : Type 0 where

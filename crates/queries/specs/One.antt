@@ -3,6 +3,8 @@
 use mathlib.Core.Bool.{not}
 use Prim.Native.Nat.{ℕ, _+_}
 use lib.Dec.{ltb}
+use Rattle.base.specs.Numbers.{DONE, NO-SUCH-LANE, LANE-TAKEN, LANE-IDLE}
+use Rattle.base.specs.Numbers.{OFF-GRID, CROSSED-CORNERS, CLOCK-EXHAUSTED, QUERY-FINISHED, CORRUPT}
 use Rattle.layout.specs.Question.{cornersOn, ordered}
 use Rattle.layout.specs.declared.question.Question.{Question}
 use Rattle.query.specs.declared.Query.{Query}
@@ -14,19 +16,19 @@ use Rattle.queries.specs.Scans.{scanOn}
 -- A start of a query with the question u in lane l, where the query q is.
 unfoldable pub startOne : Tables → ℕ → Query → Question → Result Query
 startOne t l q u =
-    unless (rightLengths t) 12
-    (unless (ltb l 4) 1
-    (unless (isIdle (q .stage)) 2
-    (unless (cornersOn u) 5
-    (unless (ordered u) 6
-    (unless (ltb (t .clock) 2147483600) 8
-    (answered 0 (withClock t (t .clock + 1)) (begun u (t .clock + 1))))))))
+    unless (rightLengths t) CORRUPT
+    (unless (ltb l 4) NO-SUCH-LANE
+    (unless (isIdle (q .stage)) LANE-TAKEN
+    (unless (cornersOn u) OFF-GRID
+    (unless (ordered u) CROSSED-CORNERS
+    (unless (ltb (t .clock) 2147483600) CLOCK-EXHAUSTED
+    (answered DONE (withClock t (t .clock + 1)) (begun u (t .clock + 1))))))))
 
 -- A step of the query q of lane l.
 unfoldable pub stepOne : Tables → ℕ → Query → Result Query
 stepOne t l q =
-    unless (rightLengths t) 12
-    (unless (ltb l 4) 1
-    (unless (not (isIdle (q .stage))) 3
-    (unless (not (isFinished (q .stage))) 9
+    unless (rightLengths t) CORRUPT
+    (unless (ltb l 4) NO-SUCH-LANE
+    (unless (not (isIdle (q .stage))) LANE-IDLE
+    (unless (not (isFinished (q .stage))) QUERY-FINISHED
     (stepped t q (λ s. s) (scanOn t l q (q .stage))))))

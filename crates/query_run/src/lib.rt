@@ -7,7 +7,13 @@ ghost use Rattle.words.specs.Map.{TIMES, WORDS};
 ghost use Rattle.queries.specs.Query.{isIdle, isFinished};
 ghost use Rattle.tables.specs.Promise.{OnGrid};
 ghost use Rattle.query_run.specs.Promise.{Runs};
+use base::BLOCKED;
+use base::CORRUPT;
+use base::DONE;
+use base::LANE_IDLE;
+use base::NO_SUCH_LANE;
 use base::QUERY_COUNT;
+use base::QUERY_FINISHED;
 use calls::carried_out;
 use queries::lanes::is_finished;
 use queries::lanes::is_idle;
@@ -47,34 +53,34 @@ fn run_on(q: Query, lane: u32, words: &mut [u32], times: &[i32], budget: u32) ->
         made += 1;
     }
     Ran {
-        number: 0,
+        number: DONE,
         made,
         query,
     }
 }
 
-// So many steps of a query in a lane, given by value. Gives 0 if all of them did, else the first other number: 20 or 22, or 12 (lengths), 1, 3, 9,
+// So many steps of a query in a lane, given by value. Gives 0 if all of them did, else the first other number: BLOCKED or 22, or 12 (lengths), 1, 3, 9,
 // or 12 (a stored number); and how many of them were carried out.
 pub fn run_query(q: Query, lane: u32, words: &mut [u32], times: &[i32], budget: u32) -> Ran
     ensures { λ r. ⌜ OnGrid words times (Runs q lane budget r) ⌝ }
 {
     if budget == 0 {
         return Ran {
-            number: 0,
+            number: DONE,
             made: 0,
             query: q,
         };
     }
     if !right_words(words.len(), times.len()) {
         return Ran {
-            number: 12,
+            number: CORRUPT,
             made: 0,
             query: q,
         };
     }
     if lane >= QUERY_COUNT {
         return Ran {
-            number: 1,
+            number: NO_SUCH_LANE,
             made: 0,
             query: q,
         };
@@ -82,14 +88,14 @@ pub fn run_query(q: Query, lane: u32, words: &mut [u32], times: &[i32], budget: 
     let s = q.stage;
     if is_idle(s) {
         return Ran {
-            number: 3,
+            number: LANE_IDLE,
             made: 0,
             query: q,
         };
     }
     if is_finished(s) {
         return Ran {
-            number: 9,
+            number: QUERY_FINISHED,
             made: 0,
             query: q,
         };

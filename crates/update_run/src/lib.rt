@@ -7,6 +7,11 @@ ghost use Rattle.words.specs.Map.{TIMES, WORDS};
 ghost use Rattle.stage.specs.Turn.{isIdle};
 ghost use Rattle.tables.specs.Promise.{OnGrid};
 ghost use Rattle.update_run.specs.Promise.{Runs};
+use base::BLOCKED;
+use base::CORRUPT;
+use base::DONE;
+use base::LANE_IDLE;
+use base::NO_SUCH_LANE;
 use base::UPDATER_COUNT;
 use calls::carried_out;
 use stage::Updater;
@@ -46,34 +51,34 @@ fn run_on(u: Updater, lane: u32, words: &mut [u32], times: &mut [i32], budget: u
         made += 1;
     }
     Ran {
-        number: 0,
+        number: DONE,
         made,
         updater,
     }
 }
 
-// So many steps of an update in a lane, given by value. Gives 0 if all of them did, else the first other number: 20, 21 or 22, or 12 (lengths), 1, 3,
+// So many steps of an update in a lane, given by value. Gives 0 if all of them did, else the first other number: BLOCKED, 21 or 22, or 12 (lengths), 1, 3,
 // or 12 (a stored number); and how many of them were carried out.
 pub fn run_update(u: Updater, lane: u32, words: &mut [u32], times: &mut [i32], budget: u32) -> Ran
     ensures { λ r. ⌜ OnGrid words times (Runs u lane budget r) ⌝ }
 {
     if budget == 0 {
         return Ran {
-            number: 0,
+            number: DONE,
             made: 0,
             updater: u,
         };
     }
     if !right_words(words.len(), times.len()) {
         return Ran {
-            number: 12,
+            number: CORRUPT,
             made: 0,
             updater: u,
         };
     }
     if lane >= UPDATER_COUNT {
         return Ran {
-            number: 1,
+            number: NO_SUCH_LANE,
             made: 0,
             updater: u,
         };
@@ -81,7 +86,7 @@ pub fn run_update(u: Updater, lane: u32, words: &mut [u32], times: &mut [i32], b
     let s = u.stage;
     if is_idle(s) {
         return Ran {
-            number: 3,
+            number: LANE_IDLE,
             made: 0,
             updater: u,
         };

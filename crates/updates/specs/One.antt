@@ -3,6 +3,8 @@
 use mathlib.Core.Bool.{not}
 use Prim.Native.Nat.{ℕ, suc}
 use lib.Dec.{eqb, ltb}
+use Rattle.base.specs.Numbers.{DONE, NO-SUCH-LANE, LANE-TAKEN, LANE-IDLE}
+use Rattle.base.specs.Numbers.{NO-OBJECT, OFF-GRID, GRID-FULL, CLOCK-EXHAUSTED, CORRUPT}
 use Rattle.base.specs.Outcome.{Outcome, corrupt, blocked, done}
 use Rattle.layout.specs.Place.{onGrid}
 use Rattle.index.specs.Search.{search}
@@ -18,24 +20,24 @@ use Rattle.updates.specs.Update.{hasRoom, withStage}
 -- A step of the update u of lane l.
 unfoldable pub stepOne : Tables → ℕ → Updater → Result Updater
 stepOne t l u =
-    unless (rightLengths t) 12
-    (unless (ltb l 8) 1
-    (unless (not (isIdle (u .stage))) 3
+    unless (rightLengths t) CORRUPT
+    (unless (ltb l 8) NO-SUCH-LANE
+    (unless (not (isIdle (u .stage))) LANE-IDLE
     (stepped t u (withStage u) (stageOn t (suc l) u (u .stage)))))
 
 unfoldable pub startedOne : Tables → Updater → Outcome Index → Result Updater
-startedOne t u corrupt = refused 12
-startedOne t u blocked = refused 12
-startedOne t u (done d) = answered 0 (withIndex t d) u
+startedOne t u corrupt = refused CORRUPT
+startedOne t u blocked = refused CORRUPT
+startedOne t u (done d) = answered DONE (withIndex t d) u
 
 -- A start of an update of object k, to stand at (x, y), in lane l, where the update u is.
 unfoldable pub startOne : Tables → ℕ → Updater → ℕ → ℕ → ℕ → Result Updater
 startOne t l u k x y =
-    unless (rightLengths t) 12
-    (unless (ltb l 8) 1
-    (unless (isIdle (u .stage)) 2
-    (unless (not (eqb k 0)) 4
-    (unless (onGrid x y) 5
-    (unless (hasRoom (search (t .index .oid) k) (t .index .oid)) 7
-    (unless (ltb (t .clock) 2147483600) 8
+    unless (rightLengths t) CORRUPT
+    (unless (ltb l 8) NO-SUCH-LANE
+    (unless (isIdle (u .stage)) LANE-TAKEN
+    (unless (not (eqb k 0)) NO-OBJECT
+    (unless (onGrid x y) OFF-GRID
+    (unless (hasRoom (search (t .index .oid) k) (t .index .oid)) GRID-FULL
+    (unless (ltb (t .clock) 2147483600) CLOCK-EXHAUSTED
     (startedOne t (record { oid = k; x = x; y = y; stage = TakeObject }) (enter (t .index) k))))))))
