@@ -1,6 +1,3 @@
-pub mod Updaters
-pub mod Queries
-mod Stores
 mod Ends
 mod OfUpdates
 mod OfQueries

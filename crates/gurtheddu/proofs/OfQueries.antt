@@ -24,10 +24,10 @@ use Rattle.query_run.specs.Run.{runOne}
 use Rattle.collect.specs.Collect.{idled, entriesFrom}
 use Rattle.collect.specs.One.{HandedOne, handedOneOf, collectOne, FillingOne, fillingOneOf, collectOneInto}
 use Rattle.collect.proofs.Written.{entries-length}
-use Rattle.gurtheddu.specs.Queries.{scanIn, queryIn, withQuery}
+use Rattle.codes.specs.Queries.{scanIn, queryIn, withQuery}
 use Rattle.gurtheddu.specs.Coded.{coded, codedRun, codedFilling, handedBack, startSweep, runSweep, collectFrom}
 use Rattle.gurtheddu.proofs.Ends.{Starting, away, let-in, past, start-away, start-done, left-in, run-nothing, run-some}
-use Rattle.gurtheddu.proofs.Queries.{lane-seen}
+use Rattle.codes.proofs.Queries.{lane-seen}
 
 -- ---- a start
 

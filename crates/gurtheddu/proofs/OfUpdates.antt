@@ -15,10 +15,10 @@ use Rattle.calls.specs.Call.{Result, after, afterOf, unless}
 use Rattle.calls.specs.Run.{ranOf}
 use Rattle.updates.specs.One.{startedOne, startOne}
 use Rattle.update_run.specs.Run.{runOne}
-use Rattle.gurtheddu.specs.Updaters.{stageIn, updaterIn, withUpdater, startedUpdater}
+use Rattle.codes.specs.Updaters.{stageIn, updaterIn, withUpdater, startedUpdater}
 use Rattle.gurtheddu.specs.Coded.{coded, codedRun, startUpdate, runUpdate}
 use Rattle.gurtheddu.proofs.Ends.{Starting, away, let-in, past, start-away, start-done, run-nothing, run-some}
-use Rattle.gurtheddu.proofs.Updaters.{lane-seen}
+use Rattle.codes.proofs.Updaters.{lane-seen}
 
 -- ---- a start
 

@@ -15,8 +15,8 @@ use Rattle.update_run.specs.Run.{runOne}
 use Rattle.queries.specs.One.{startOne as startQuery}
 use Rattle.query_run.specs.Run.{runOne as runQuery}
 use Rattle.collect.specs.One.{FillingOne, collectOneInto}
-use Rattle.gurtheddu.specs.Updaters.{namesStage, updaterIn, withUpdater}
-use Rattle.gurtheddu.specs.Queries.{namesScan, queryIn, withQuery}
+use Rattle.codes.specs.Updaters.{namesStage, updaterIn, withUpdater}
+use Rattle.codes.specs.Queries.{namesScan, queryIn, withQuery}
 
 -- what a call in one lane comes to, where `store` puts the lane's numbers in their place
 unfoldable pub coded : {L : Type 0} → (L → List ℕ) → Result L → Result (List ℕ)

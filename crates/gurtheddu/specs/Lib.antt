@@ -1,4 +1,2 @@
-pub mod Updaters
-pub mod Queries
 pub mod Coded
 pub mod Promise

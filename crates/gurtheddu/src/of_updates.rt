@@ -1,14 +1,14 @@
 // The calls of updates (document 01: report start, and report steps in a row).
 ghost use Rattle.tables.specs.Promise.{OnGrid};
 ghost use Rattle.gurtheddu.specs.Promise.{StartsUpdate, RunsUpdate};
-use crate::update_lane::LAST_STAGE;
-use crate::update_lane::STAGE_AT;
-use crate::update_lane::UPDATER_NUMBERS;
-use crate::update_lane::load_updater;
-use crate::update_lane::seen_updater;
-use crate::update_lane::store_started;
-use crate::update_lane::store_updater;
 use base::UPDATER_COUNT;
+use codes::update_lane::LAST_STAGE;
+use codes::update_lane::STAGE_AT;
+use codes::update_lane::UPDATER_NUMBERS;
+use codes::update_lane::load_updater;
+use codes::update_lane::seen_updater;
+use codes::update_lane::store_started;
+use codes::update_lane::store_updater;
 use update_run::run_update;
 use updates::start::start_one;
 

@@ -8,8 +8,8 @@ use borrow.Author.Needs.{needs}
 use Rattle.gurtheddu.proofs.of_queries.gurtheddu_collect.Statement.{statement}
 use Rattle.gurtheddu.proofs.of_queries.gurtheddu_collect.Tie as tie
 use Rattle.collect.proofs.whole.collect_one.Reads as collect-one-reads
-use Rattle.gurtheddu.proofs.query_lane.load_query.Reads as load-query-reads
-use Rattle.gurtheddu.proofs.query_lane.store_idle.Reads as store-idle-reads
+use Rattle.codes.proofs.query_lane.load_query.Reads as load-query-reads
+use Rattle.codes.proofs.query_lane.store_idle.Reads as store-idle-reads
 
 returns : tie.Need-returns
 returns c =

@@ -7,8 +7,8 @@ use borrow.Author.Needs.{needs}
 use Rattle.gurtheddu.proofs.of_queries.gurtheddu_query_run.Statement.{statement}
 use Rattle.gurtheddu.proofs.of_queries.gurtheddu_query_run.Tie as tie
 use Rattle.query_run.proofs.run_query.Reads as run-query-reads
-use Rattle.gurtheddu.proofs.query_lane.load_query.Reads as load-query-reads
-use Rattle.gurtheddu.proofs.query_lane.store_query.Reads as store-query-reads
+use Rattle.codes.proofs.query_lane.load_query.Reads as load-query-reads
+use Rattle.codes.proofs.query_lane.store_query.Reads as store-query-reads
 
 returns : tie.Need-returns
 returns c =

@@ -8,8 +8,8 @@ use Rattle.gurtheddu.proofs.of_queries.gurtheddu_query_start.Statement.
 use Rattle.gurtheddu.proofs.of_queries.gurtheddu_query_start.Tie as tie
 use Rattle.layout.proofs.question.first_cell.Reads as first-cell-reads
 use Rattle.queries.proofs.start.start_one.Reads as start-one-reads
-use Rattle.gurtheddu.proofs.query_lane.seen_query.Reads as seen-query-reads
-use Rattle.gurtheddu.proofs.query_lane.store_begun.Reads as store-begun-reads
+use Rattle.codes.proofs.query_lane.seen_query.Reads as seen-query-reads
+use Rattle.codes.proofs.query_lane.store_begun.Reads as store-begun-reads
 
 returns : tie.Need-returns
 returns c =

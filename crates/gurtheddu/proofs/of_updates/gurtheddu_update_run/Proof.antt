@@ -7,8 +7,8 @@ use borrow.Author.Needs.{needs}
 use Rattle.gurtheddu.proofs.of_updates.gurtheddu_update_run.Statement.{statement}
 use Rattle.gurtheddu.proofs.of_updates.gurtheddu_update_run.Tie as tie
 use Rattle.update_run.proofs.run_update.Reads as run-update-reads
-use Rattle.gurtheddu.proofs.update_lane.load_updater.Reads as load-updater-reads
-use Rattle.gurtheddu.proofs.update_lane.store_updater.Reads as store-updater-reads
+use Rattle.codes.proofs.update_lane.load_updater.Reads as load-updater-reads
+use Rattle.codes.proofs.update_lane.store_updater.Reads as store-updater-reads
 
 returns : tie.Need-returns
 returns c =

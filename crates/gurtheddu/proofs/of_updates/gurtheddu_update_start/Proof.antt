@@ -7,8 +7,8 @@ use borrow.Author.Needs.{needs}
 use Rattle.gurtheddu.proofs.of_updates.gurtheddu_update_start.Statement.{statement}
 use Rattle.gurtheddu.proofs.of_updates.gurtheddu_update_start.Tie as tie
 use Rattle.updates.proofs.start.start_one.Reads as start-one-reads
-use Rattle.gurtheddu.proofs.update_lane.seen_updater.Reads as seen-updater-reads
-use Rattle.gurtheddu.proofs.update_lane.store_started.Reads as store-started-reads
+use Rattle.codes.proofs.update_lane.seen_updater.Reads as seen-updater-reads
+use Rattle.codes.proofs.update_lane.store_started.Reads as store-started-reads
 
 returns : tie.Need-returns
 returns c =

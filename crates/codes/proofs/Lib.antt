@@ -1,0 +1,3 @@
+pub mod Updaters
+pub mod Queries
+mod Stores

@@ -1,0 +1,2 @@
+pub mod Updaters
+pub mod Queries

@@ -1,0 +1,3 @@
+// Lanes coded in numbers, for callers who cannot hold an enum: read off them and stored in them.
+pub mod query_lane;
+pub mod update_lane;
