@@ -11,6 +11,7 @@ use layout::question::is_inside;
 use query::Query;
 use query::Scan;
 use script::line::Line;
+use script::line::QueryLine;
 use script::parse::parse;
 use slots::tuple::TupleRead;
 use slots::tuple::is_seen;
@@ -76,7 +77,10 @@ pub fn line_looked(
     requires { ⌜ (length (now words) ≡ WORDS) × (length (now times) ≡ TIMES) ⌝ }
 {
     let command = parse(line);
-    let Line::StepQuery(lane) = command else {
+    let Line::Query(asked) = command else {
+        return last;
+    };
+    let QueryLine::Step(lane) = asked else {
         return last;
     };
     if lane >= 4 {
