@@ -1,4 +1,5 @@
--- Every call goes alike on two grids of runs that differ in the stamps and the clock alone: the answers are equal, and so the grids go on.
+-- Every call goes alike on two grids of runs that differ in the stamps and the clock alone: the answers are equal,
+-- and so the grids go on.
 -- Neither is ever refused with 12, so the two steps meet; 8 is the one number that the clock decides.
 use mathlib.Core.Path.{_≡_, refl, sym, ap, subst, _∙_}
 use mathlib.Core.Logic.{_≢_}
@@ -36,7 +37,8 @@ use Rattle.updates.specs.Update.{idleUpdater, putStage, updateStep, hasRoom, st
 use Rattle.queries.specs.Scans.{scanOn}
 use Rattle.queries.specs.Query.{idleQuery, isIdle as isIdleQuery, isFinished, queryStep, queryStart, begun}
 use Rattle.collect.specs.Collect.{Handed, handedOf, idled, collectQuery, entriesFrom}
-use Rattle.grid.specs.Run.{Grid, gridOf, Call, startUpdate, stepUpdate, startQuery, stepQuery, collect, rewind, Answer, call}
+use Rattle.grid.specs.Run.{Grid, gridOf, Call, startUpdate, stepUpdate, startQuery, stepQuery, collect, rewind}
+use Rattle.grid.specs.Run.{Answer, call}
 use Rattle.rest.specs.Rest.{atRest}
 use Rattle.rest.proofs.Facts.{facts-at-rest}
 use Rattle.rewind.specs.Rewind.{woundTables}
@@ -57,11 +59,17 @@ module _ {O : ℕ → ℕ → Type 0} {t t′ : Tables} (A : Alike O t t′) whe
   A₁ : Alike O t (retimed t (t′ .tuples .time) (t′ .clock))
   A₁ = subst (Alike O t) (A .rest) A
 
-  stage-on : (o : ℕ) (u : Updater) (s : Stage) → Meet (Steps (λ (x y : Stage). y ≡ x) (Alike O)) (stageOn t o u s) (stageOn t′ o u s)
-  stage-on o u s = subst (λ (x : Tables). Meet (Steps (λ (x y : Stage). y ≡ x) (Alike O)) (stageOn t o u s) (stageOn x o u s)) (sym (A .rest)) (stage-alike O t (t′ .tuples .time) (t′ .clock) A₁ o u s)
+  stage-on : (o : ℕ) (u : Updater) (s : Stage) → Meet (Steps (λ (x y : Stage). y ≡ x) (Alike O)) (stageOn t o u s)
+      (stageOn t′ o u s)
+  stage-on o u s = subst (λ (x : Tables). Meet (Steps (λ (x y : Stage). y ≡ x) (Alike O)) (stageOn t o u s)
+      (stageOn x o u s)) (sym (A .rest)) (stage-alike O t (t′ .tuples .time) (t′ .clock) A₁ o u s)
 
-  scan-on : (l : ℕ) (q : Query) (s′ : ℕ) (a : Scan) → O (q .stamp) s′ → Meet (Steps (λ (x y : Query). (y ≡ restamped x s′) × (x .stamp ≡ q .stamp)) (Alike O)) (scanOn t l q a) (scanOn t′ l (restamped q s′) a)
-  scan-on l q s′ a p = subst (λ (x : Tables). Meet (Steps (λ (x y : Query). (y ≡ restamped x s′) × (x .stamp ≡ q .stamp)) (Alike O)) (scanOn t l q a) (scanOn x l (restamped q s′) a)) (sym (A .rest)) (scan-alike O t (t′ .tuples .time) (t′ .clock) A₁ l q s′ p a)
+  scan-on : (l : ℕ) (q : Query) (s′ : ℕ) (a : Scan) → O (q .stamp) s′ → Meet
+      (Steps (λ (x y : Query). (y ≡ restamped x s′) × (x .stamp ≡ q .stamp)) (Alike O)) (scanOn t l q a)
+      (scanOn t′ l (restamped q s′) a)
+  scan-on l q s′ a p = subst (λ (x : Tables). Meet
+      (Steps (λ (x y : Query). (y ≡ restamped x s′) × (x .stamp ≡ q .stamp)) (Alike O)) (scanOn t l q a)
+      (scanOn x l (restamped q s′) a)) (sym (A .rest)) (scan-alike O t (t′ .tuples .time) (t′ .clock) A₁ l q s′ p a)
 
 -- ---- a step of an update
 
@@ -78,26 +86,31 @@ module _ (g g′ : Grid) (G : Good g) (G′ : Good g′) (B : Both g g′) (l : 
   abbrev O : ℕ → ℕ → Type 0
   O = Pair g g′
 
-  nothing : Same O (after (g .tables) us (refused 0)) (after (g′ .tables) us (refused 0))
-  unfolding after
-  nothing = record { number = refl; tables = B .tables; lanes = refl }
-
   -- refused with the same number
   turned-away : (n : ℕ) → Same O (after (g .tables) us (refused n)) (after (g′ .tables) us (refused n))
   unfolding after
   turned-away n = record { number = refl; tables = B .tables; lanes = refl }
 
   by-step : (o o′ : Outcome (Move Tables)) → Meet (Steps (λ (x y : Stage). y ≡ x) (Alike O)) o o′
-      → after (g .tables) us (stepped (g .tables) us (putStage us l) o) .number ≢ 12 → after (g′ .tables) us (stepped (g′ .tables) us (putStage us l) o′) .number ≢ 12
-      → Same O (after (g .tables) us (stepped (g .tables) us (putStage us l) o)) (after (g′ .tables) us (stepped (g′ .tables) us (putStage us l) o′))
+      → after (g .tables) us (stepped (g .tables) us (putStage us l) o) .number ≢ 12 → after (g′ .tables) us
+      (stepped (g′ .tables) us (putStage us l) o′) .number ≢ 12
+      → Same O (after (g .tables) us (stepped (g .tables) us (putStage us l) o))
+      (after (g′ .tables) us (stepped (g′ .tables) us (putStage us l) o′))
   unfolding after stepped
   by-step _ _ both-blocked n n′ = record { number = refl; tables = B .tables; lanes = refl }
-  by-step _ _ (both-done s) n n′ = record { number = s .number; tables = s .tables; lanes = ap (putStage us l) (s .next) }
+  by-step _ _ (both-done s) n n′ = record {
+    number = s .number;
+    tables = s .tables;
+    lanes = ap (putStage us l)
+        (s .next);
+  }
   by-step _ _ left-refused n n′ = absurd (n refl)
   by-step _ _ right-refused n n′ = absurd (n′ refl)
 
-  update-same : after (g .tables) us (updateStep (g .tables) us l) .number ≢ 12 → after (g′ .tables) us (updateStep (g′ .tables) us l) .number ≢ 12
-      → Same O (after (g .tables) us (updateStep (g .tables) us l)) (after (g′ .tables) us (updateStep (g′ .tables) us l))
+  update-same : after (g .tables) us (updateStep (g .tables) us l) .number ≢ 12 → after (g′ .tables) us
+      (updateStep (g′ .tables) us l) .number ≢ 12
+      → Same O (after (g .tables) us (updateStep (g .tables) us l))
+      (after (g′ .tables) us (updateStep (g′ .tables) us l))
   unfolding updateStep unless
   update-same =
       let z = sized (g .tables) (G .shape .lengths) in
@@ -118,25 +131,37 @@ module _ (g g′ : Grid) (G : Good g) (G′ : Good g′) (B : Both g g′) (l : 
   entered : (d : Index) → Alike O (withIndex (g .tables) d) (withIndex (g′ .tables) d)
   entered d =
       let A = B .tables in
-      record { rest = ap (λ (x : Tables). withIndex x d) (A .rest); long = A .long; times = A .times; bound = A .bound; clock = A .clock }
+      record {
+        rest = ap (λ (x : Tables). withIndex x d)
+            (A .rest);
+        long = A .long;
+        times = A .times;
+        bound = A .bound;
+        clock = A .clock;
+      }
 
-  by-start : (u : Updater) (o : Outcome Index) → Same O (after (g .tables) us (started (g .tables) us l u o)) (after (g′ .tables) us (started (g′ .tables) us l u o))
+  by-start : (u : Updater) (o : Outcome Index) → Same O (after (g .tables) us (started (g .tables) us l u o))
+      (after (g′ .tables) us (started (g′ .tables) us l u o))
   unfolding started after
   by-start u corrupt = record { number = refl; tables = B .tables; lanes = refl }
   by-start u blocked = record { number = refl; tables = B .tables; lanes = refl }
   by-start u (done d) = record { number = refl; tables = entered d; lanes = refl }
 
   clock-passes : ltb (g .tables .clock) 2147483600 ≡ true → ltb (g′ .tables .clock) 2147483600 ≡ true
-  clock-passes e = lt-ltb (g′ .tables .clock) 2147483600 (omega (arith, ltb-true (g .tables .clock) 2147483600 e, B .tables .clock))
+  clock-passes e = lt-ltb (g′ .tables .clock) 2147483600
+      (omega (arith, ltb-true (g .tables .clock) 2147483600 e, B .tables .clock))
 
   start-same : (k x y : ℕ) → after (g .tables) us (updateStart (g .tables) us l k x y) .number ≢ 8
-      → Same O (after (g .tables) us (updateStart (g .tables) us l k x y)) (after (g′ .tables) us (updateStart (g′ .tables) us l k x y))
+      → Same O (after (g .tables) us (updateStart (g .tables) us l k x y))
+      (after (g′ .tables) us (updateStart (g′ .tables) us l k x y))
   unfolding updateStart unless after
   start-same k x y =
       let z = sized (g .tables) (G .shape .lengths) in
       let z′ = sized (g′ .tables) (G′ .shape .lengths) in
       let d = g .tables .index .oid in
-      let room : (b : Bool) → hasRoom (search d k) d ≡ b → hasRoom (search (g′ .tables .index .oid) k) (g′ .tables .index .oid) ≡ b = λ b h. ap (λ (x : Index). hasRoom (search (x .oid) k) (x .oid)) index-same ∙ h in
+      let room : (b : Bool) → hasRoom (search d k) d ≡ b → hasRoom (search (g′ .tables .index .oid) k)
+      (g′ .tables .index .oid) ≡ b = λ b h. ap (λ (x : Index). hasRoom (search (x .oid) k) (x .oid)) index-same
+      ∙ h in
       let u : Updater = record { oid = k; x = x; y = y; stage = TakeObject } in
       by-test (ltb l 8)
       (λ h₁. by-test (isIdle (getD us l idleUpdater .stage))
@@ -144,7 +169,11 @@ module _ (g g′ : Grid) (G : Good g) (G′ : Good g′) (B : Both g g′) (l : 
       (λ h₃. by-test (onGrid x y)
       (λ h₄. by-test (hasRoom (search d k) d)
       (λ h₅. by-test (ltb (g .tables .clock) 2147483600)
-      (λ h₆. rw (z, z′, h₁, h₂, h₃, h₄, h₅, room true h₅, h₆, clock-passes h₆) (λ n. subst (λ (o : Outcome Index). Same O (after (g .tables) us (started (g .tables) us l u (enter (g .tables .index) k))) (after (g′ .tables) us (started (g′ .tables) us l u o))) (ap (λ (x : Index). enter x k) (sym index-same)) (by-start u (enter (g .tables .index) k))))
+      (λ h₆. rw (z, z′, h₁, h₂, h₃, h₄, h₅, room true h₅, h₆, clock-passes h₆)
+      (λ n. subst (λ (o : Outcome Index). Same O (after (g .tables) us
+      (started (g .tables) us l u (enter (g .tables .index) k)))
+      (after (g′ .tables) us (started (g′ .tables) us l u o))) (ap (λ (x : Index). enter x k) (sym index-same))
+      (by-start u (enter (g .tables .index) k))))
       (λ h₆. rw (z, h₁, h₂, h₃, h₄, h₅, h₆) (λ n. absurd (n refl))))
       (λ h₅. rw (z, z′, h₁, h₂, h₃, h₄, h₅, room false h₅) (λ n. turned-away 7)))
       (λ h₄. rw (z, z′, h₁, h₂, h₃, h₄) (λ n. turned-away 5)))
@@ -171,7 +200,12 @@ fewer : {O O₁ : ℕ → ℕ → Type 0} {t t′ : Tables} → ((s s′ : ℕ) 
 fewer f A = record {
   rest = A .rest;
   long = A .long;
-  times = λ i. let L = A .times i in record { stands = L .stands; stood = L .stood; tells = λ s s′ o. L .tells s s′ (f s s′ o) };
+  times = λ i. let L = A .times i in record {
+    stands = L .stands;
+    stood = L .stood;
+    tells = λ s s′ o. L .tells s s′
+        (f s s′ o);
+  };
   bound = λ s s′ o. A .bound s s′ (f s s′ o);
   clock = A .clock;
 }
@@ -193,12 +227,14 @@ module _ (g g′ : Grid) (G : Good g) (G′ : Good g′) (B : Both g g′) (l : 
   abbrev s₁ : ℕ
   s₁ = query g′ l .stamp
 
-  away : (n : ℕ) → SameQ (g .updaters) (g′ .updaters) (after (g .tables) qs (refused n)) (after (g′ .tables) qs′ (refused n))
+  away : (n : ℕ) → SameQ (g .updaters) (g′ .updaters) (after (g .tables) qs (refused n))
+      (after (g′ .tables) qs′ (refused n))
   unfolding after
   away n = record { number = refl; both = B }
 
   -- one lane replaced by queries with the old stamps
-  module _ (l< : l < 4) (busy : q₀ .stage ≢ Idle) (x x′ : Query) (e : x′ ≡ restamped x s₁) (k : x .stamp ≡ q₀ .stamp) (T T′ : Tables) (A : Alike (Pair g g′) T T′) where
+  module _ (l< : l < 4) (busy : q₀ .stage ≢ Idle) (x x′ : Query) (e : x′ ≡ restamped x s₁) (k : x .stamp ≡ q₀ .stamp)
+      (T T′ : Tables) (A : Alike (Pair g g′) T T′) where
     abbrev h : Grid
     h = gridOf T (g .updaters) (set qs l x)
 
@@ -219,8 +255,12 @@ module _ (g g′ : Grid) (G : Good g) (G′ : Good g′) (B : Both g g′) (l : 
 
     old-pair : (s s′ : ℕ) → Pair h h′ s s′ → Pair g g′ s s′
     old-pair s s′ (pair q q< n a b) = at-or q l
-        (λ z. pair l l< busy (sym k ∙ ap (λ (y : Query). y .stamp) (sym at-l) ∙ ap (λ (i : ℕ). query h i .stamp) (sym z) ∙ a) (ap (λ (y : Query). y .stamp) (sym (at-l′ ∙ e)) ∙ ap (λ (i : ℕ). query h′ i .stamp) (sym z) ∙ b))
-        (λ z. pair q q< (λ y. n (ap (λ (v : Query). v .stage) (elsewhere q z) ∙ y)) (sym (ap (λ (v : Query). v .stamp) (elsewhere q z)) ∙ a) (sym (ap (λ (v : Query). v .stamp) (elsewhere′ q z)) ∙ b))
+        (λ z. pair l l< busy (sym k ∙ ap (λ (y : Query). y .stamp) (sym at-l) ∙ ap (λ (i : ℕ). query h i .stamp)
+        (sym z) ∙ a) (ap (λ (y : Query). y .stamp) (sym (at-l′ ∙ e)) ∙ ap (λ (i : ℕ). query h′ i .stamp) (sym z)
+        ∙ b))
+        (λ z. pair q q< (λ y. n (ap (λ (v : Query). v .stage) (elsewhere q z) ∙ y))
+        (sym (ap (λ (v : Query). v .stamp) (elsewhere q z)) ∙ a)
+        (sym (ap (λ (v : Query). v .stamp) (elsewhere′ q z)) ∙ b))
 
     replaced : Both h h′
     replaced = record {
@@ -231,12 +271,19 @@ module _ (g g′ : Grid) (G : Good g) (G′ : Good g′) (B : Both g g′) (l : 
           (λ z. rw (elsewhere q z, elsewhere′ q z) (B .queries q));
     }
 
-  by-scan : l < 4 → q₀ .stage ≢ Idle → (o o′ : Outcome (Step Query Tables)) → Meet (Steps (λ (x y : Query). (y ≡ restamped x s₁) × (x .stamp ≡ q₀ .stamp)) (Alike (Pair g g′))) o o′
-      → after (g .tables) qs (stepped (g .tables) qs (set qs l) o) .number ≢ 12 → after (g′ .tables) qs′ (stepped (g′ .tables) qs′ (set qs′ l) o′) .number ≢ 12
-      → SameQ (g .updaters) (g′ .updaters) (after (g .tables) qs (stepped (g .tables) qs (set qs l) o)) (after (g′ .tables) qs′ (stepped (g′ .tables) qs′ (set qs′ l) o′))
+  by-scan : l < 4 → q₀ .stage ≢ Idle → (o o′ : Outcome (Step Query Tables)) → Meet
+      (Steps (λ (x y : Query). (y ≡ restamped x s₁) × (x .stamp ≡ q₀ .stamp)) (Alike (Pair g g′))) o o′
+      → after (g .tables) qs (stepped (g .tables) qs (set qs l) o) .number ≢ 12 → after (g′ .tables) qs′
+      (stepped (g′ .tables) qs′ (set qs′ l) o′) .number ≢ 12
+      → SameQ (g .updaters) (g′ .updaters) (after (g .tables) qs (stepped (g .tables) qs (set qs l) o))
+      (after (g′ .tables) qs′ (stepped (g′ .tables) qs′ (set qs′ l) o′))
   unfolding after stepped
   by-scan l< busy _ _ both-blocked n n′ = record { number = refl; both = B }
-  by-scan l< busy _ _ (both-done {a = m} {b = m′} s) n n′ = record { number = s .number; both = replaced l< busy (m .next) (m′ .next) (s .next .0) (s .next .1) (m .tables) (m′ .tables) (s .tables) }
+  by-scan l< busy _ _ (both-done {a = m} {b = m′} s) n n′ = record {
+    number = s .number;
+    both = replaced l< busy
+        (m .next) (m′ .next) (s .next .0) (s .next .1) (m .tables) (m′ .tables) (s .tables);
+  }
   by-scan l< busy _ _ left-refused n n′ = absurd (n refl)
   by-scan l< busy _ _ right-refused n n′ = absurd (n′ refl)
 
@@ -244,8 +291,10 @@ module _ (g g′ : Grid) (G : Good g) (G′ : Good g′) (B : Both g g′) (l : 
   unfolding isIdleQuery
   not-idle a e z = let w = rw z at e in clash (cc)
 
-  step-same : after (g .tables) qs (queryStep (g .tables) qs l) .number ≢ 12 → after (g′ .tables) qs′ (queryStep (g′ .tables) qs′ l) .number ≢ 12
-      → SameQ (g .updaters) (g′ .updaters) (after (g .tables) qs (queryStep (g .tables) qs l)) (after (g′ .tables) qs′ (queryStep (g′ .tables) qs′ l))
+  step-same : after (g .tables) qs (queryStep (g .tables) qs l) .number ≢ 12 → after (g′ .tables) qs′
+      (queryStep (g′ .tables) qs′ l) .number ≢ 12
+      → SameQ (g .updaters) (g′ .updaters) (after (g .tables) qs (queryStep (g .tables) qs l))
+      (after (g′ .tables) qs′ (queryStep (g′ .tables) qs′ l))
   unfolding queryStep unless
   step-same =
       let z = sized (g .tables) (G .shape .lengths) in
@@ -256,7 +305,8 @@ module _ (g g′ : Grid) (G : Good g) (G′ : Good g′) (B : Both g g′) (l : 
       (λ i. rw (z, z′, h, e, i) (λ n n′. away 3))
       (λ i. by-test (isFinished (q₀ .stage))
       (λ f. rw (z, z′, h, e, i, f) (λ n n′. away 9))
-      (λ f. rw (z, z′, h, e, i, f) (by-scan (ltb-true l 4 h) (not-idle (q₀ .stage) i) _ _ (scan-on (B .tables) l q₀ s₁ (q₀ .stage) (pair l (ltb-true l 4 h) (not-idle (q₀ .stage) i) refl refl))))))
+      (λ f. rw (z, z′, h, e, i, f) (by-scan (ltb-true l 4 h) (not-idle (q₀ .stage) i) _ _
+      (scan-on (B .tables) l q₀ s₁ (q₀ .stage) (pair l (ltb-true l 4 h) (not-idle (q₀ .stage) i) refl refl))))))
       (λ h. rw (z, z′, h) (λ n n′. away 1))
 
   -- ---- the start of a query
@@ -283,11 +333,13 @@ module _ (g g′ : Grid) (G : Good g) (G′ : Good g′) (B : Both g g′) (l : 
     -- one of the old pairs, or the new one
     by-pair : {C : Type 0} (s s′ : ℕ) → Pair k k′ s s′ → (Pair g g′ s s′ → C) → (s ≡ τ → s′ ≡ τ′ → C) → C
     by-pair s s′ (pair q q< n a b) f f′ = at-or q l
-        (λ z. f′ (sym a ∙ ap (λ (i : ℕ). query k i .stamp) z ∙ ap (λ (y : Query). y .stamp) is-begun) (sym b ∙ ap (λ (i : ℕ). query k′ i .stamp) z ∙ ap (λ (y : Query). y .stamp) is-begun′))
+        (λ z. f′ (sym a ∙ ap (λ (i : ℕ). query k i .stamp) z ∙ ap (λ (y : Query). y .stamp) is-begun)
+        (sym b ∙ ap (λ (i : ℕ). query k′ i .stamp) z ∙ ap (λ (y : Query). y .stamp) is-begun′))
         (λ z.
         let w = getD-set-other qs l q (begun u τ) idleQuery z in
         let w′ = getD-set-other qs′ l q (begun u τ′) idleQuery z in
-        f (pair q q< (λ y. n (ap (λ (v : Query). v .stage) w ∙ y)) (sym (ap (λ (v : Query). v .stamp) w) ∙ a) (sym (ap (λ (v : Query). v .stamp) w′) ∙ b)))
+        f (pair q q< (λ y. n (ap (λ (v : Query). v .stage) w ∙ y)) (sym (ap (λ (v : Query). v .stamp) w) ∙ a)
+        (sym (ap (λ (v : Query). v .stamp) w′) ∙ b)))
 
     begun-both : Both k k′
     begun-both =
@@ -302,19 +354,28 @@ module _ (g g′ : Grid) (G : Good g) (G′ : Good g′) (B : Both g g′) (l : 
                   stands = L .stands;
                   stood = L .stood;
                   tells = λ s s′ o. by-pair s s′ o (λ p. L .tells s s′ p)
-                      (λ e e′. rw (e, e′) (tells-new τ′ (stampAt (g′ .tables .tuples .time) i) (λ b. omega (arith, young-at g′ G′ i b)) ∙ L .stands ∙ sym (tells-new τ (stampAt (g .tables .tuples .time) i) (λ b. omega (arith, young-at g G i b)))));
+                      (λ e e′. rw (e, e′) (tells-new τ′ (stampAt (g′ .tables .tuples .time) i)
+                      (λ b. omega (arith, young-at g′ G′ i b)) ∙ L .stands ∙ sym
+                      (tells-new τ (stampAt (g .tables .tuples .time) i)
+                      (λ b. omega (arith, young-at g G i b)))));
                 };
-            bound = λ s s′ o. by-pair s s′ o (λ p. let b = A .bound s s′ p in (omega (arith, b .0), omega (arith, b .1))) (λ e e′. (omega arith, omega arith));
+            bound = λ s s′ o. by-pair s s′ o (λ p. let b = A .bound s s′ p in
+                (omega (arith, b .0), omega (arith, b .1))) (λ e e′. (omega arith, omega arith));
             clock = omega (arith, A .clock);
           };
           updaters = B .updaters;
           queries = λ q. at-or q l
               (λ z. rw (z, is-begun, is-begun′))
-              (λ z. rw (getD-set-other qs l q (begun u τ) idleQuery z, getD-set-other qs′ l q (begun u τ′) idleQuery z) (B .queries q));
+              (λ z. rw (
+                getD-set-other qs l q (begun u τ) idleQuery z,
+                getD-set-other qs′ l q
+                    (begun u τ′) idleQuery z,
+              ) (B .queries q));
         }
 
   ask-same : (u : Question) → after (g .tables) qs (queryStart (g .tables) qs l u) .number ≢ 8
-      → SameQ (g .updaters) (g′ .updaters) (after (g .tables) qs (queryStart (g .tables) qs l u)) (after (g′ .tables) qs′ (queryStart (g′ .tables) qs′ l u))
+      → SameQ (g .updaters) (g′ .updaters) (after (g .tables) qs (queryStart (g .tables) qs l u))
+      (after (g′ .tables) qs′ (queryStart (g′ .tables) qs′ l u))
   unfolding queryStart unless after
   ask-same u =
       let z = sized (g .tables) (G .shape .lengths) in
@@ -325,7 +386,19 @@ module _ (g g′ : Grid) (G : Good g) (G′ : Good g′) (B : Both g g′) (l : 
       (λ h₂. by-test (cornersOn u)
       (λ h₃. by-test (ordered u)
       (λ h₄. by-test (ltb (g .tables .clock) 2147483600)
-      (λ h₅. rw (z, z′, h₁, h₂, e ∙ h₂, h₃, h₄, h₅, lt-ltb (g′ .tables .clock) 2147483600 (omega (arith, ltb-true (g .tables .clock) 2147483600 h₅, B .tables .clock))) (λ n. record { number = refl; both = begun-both u (ltb-true l 4 h₁) }))
+      (λ h₅. rw (
+        z,
+        z′,
+        h₁,
+        h₂,
+        e ∙ h₂,
+        h₃,
+        h₄,
+        h₅,
+        lt-ltb (g′ .tables .clock) 2147483600
+            (omega (arith, ltb-true (g .tables .clock) 2147483600 h₅, B .tables .clock)),
+      )
+      (λ n. record { number = refl; both = begun-both u (ltb-true l 4 h₁) }))
       (λ h₅. rw (z, h₁, h₂, h₃, h₄, h₅) (λ n. absurd (n refl))))
       (λ h₄. rw (z, z′, h₁, h₂, e ∙ h₂, h₃, h₄) (λ n. away 6)))
       (λ h₃. rw (z, z′, h₁, h₂, e ∙ h₂, h₃) (λ n. away 5)))
@@ -339,16 +412,19 @@ module _ (g g′ : Grid) (G : Good g) (G′ : Good g′) (B : Both g g′) (l : 
     pub number : a′ .number ≡ a .number
     pub steps : a′ .lanes .steps ≡ a .lanes .steps
     pub part : a′ .lanes .part ≡ a .lanes .part
-    pub both : Both (gridOf (a .tables) (g .updaters) (a .lanes .queries)) (gridOf (a′ .tables) (g′ .updaters) (a′ .lanes .queries))
+    pub both : Both (gridOf (a .tables) (g .updaters) (a .lanes .queries))
+        (gridOf (a′ .tables) (g′ .updaters) (a′ .lanes .queries))
 
-  refused-both : (n : ℕ) → SameC (after (g .tables) (handedOf qs 0 []) (refused n)) (after (g′ .tables) (handedOf qs′ 0 []) (refused n))
+  refused-both : (n : ℕ) → SameC (after (g .tables) (handedOf qs 0 []) (refused n))
+      (after (g′ .tables) (handedOf qs′ 0 []) (refused n))
   unfolding after
   refused-both n = record { number = refl; steps = refl; part = refl; both = B }
 
   hits-same : g′ .tables .hits ≡ g .tables .hits
   hits-same = ap (λ (x : Tables). x .hits) (B .tables .rest)
 
-  collect-same : (n : ℕ) → SameC (after (g .tables) (handedOf qs 0 []) (collectQuery (g .tables) qs l n)) (after (g′ .tables) (handedOf qs′ 0 []) (collectQuery (g′ .tables) qs′ l n))
+  collect-same : (n : ℕ) → SameC (after (g .tables) (handedOf qs 0 []) (collectQuery (g .tables) qs l n))
+      (after (g′ .tables) (handedOf qs′ 0 []) (collectQuery (g′ .tables) qs′ l n))
   unfolding collectQuery unless after
   collect-same n =
       let z = sized (g .tables) (G .shape .lengths) in
@@ -364,7 +440,8 @@ module _ (g g′ : Grid) (G : Good g) (G′ : Good g′) (B : Both g g′) (l : 
         number = refl;
         steps = refl;
         part = ap (λ (x : Hits). entriesFrom x (256 * l) (q₀ .hits)) hits-same;
-        both = replaced (ltb-true l 4 h₁) (not-idle (q₀ .stage) h₂) (idled q₀) (restamped (idled q₀) s₁) refl refl (g .tables) (g′ .tables) (B .tables);
+        both = replaced (ltb-true l 4 h₁) (not-idle (q₀ .stage) h₂) (idled q₀) (restamped (idled q₀) s₁) refl refl
+            (g .tables) (g′ .tables) (B .tables);
       }))
       (λ h₅. rw (z, z′, h₁, e, h₂, h₃, h₄, h₅) (refused-both 12)))
       (λ h₄. rw (z, z′, h₁, e, h₂, h₃, h₄) (refused-both 11)))
@@ -440,22 +517,39 @@ answer-same e f h = λ i. record { number = e i; steps = f i; part = h i }
 
 module _ (g g′ : Grid) (G : Good g) (G′ : Good g′) (B : Both g g′) where
   -- the grids after a call of updates
-  after-update : (a a′ : After (List Updater)) → Same (Pair g g′) a a′ → Both (gridOf (a .tables) (a .lanes) (g .queries)) (gridOf (a′ .tables) (a′ .lanes) (g′ .queries))
-  after-update a a′ S = record { tables = fewer (λ s s′ p. kept s s′ p) (S .tables); updaters = S .lanes; queries = B .queries }
+  after-update : (a a′ : After (List Updater)) → Same (Pair g g′) a a′ → Both
+      (gridOf (a .tables) (a .lanes) (g .queries)) (gridOf (a′ .tables) (a′ .lanes) (g′ .queries))
+  after-update a a′ S = record {
+    tables = fewer (λ s s′ p. kept s s′ p)
+        (S .tables);
+    updaters = S .lanes;
+    queries = B .queries;
+  }
     where
-      kept : (s s′ : ℕ) → Pair (gridOf (a .tables) (a .lanes) (g .queries)) (gridOf (a′ .tables) (a′ .lanes) (g′ .queries)) s s′ → Pair g g′ s s′
+      kept : (s s′ : ℕ) → Pair (gridOf (a .tables) (a .lanes) (g .queries))
+          (gridOf (a′ .tables) (a′ .lanes) (g′ .queries)) s s′ → Pair g g′ s s′
       kept s s′ (pair q q< n e e′) = pair q q< n e e′
 
-  pub lock-step : (c : Call) → call c g .0 .number ≢ 8 → (call c g′ .0 ≡ call c g .0) × Both (call c g .1) (call c g′ .1)
+  pub lock-step : (c : Call) → call c g .0 .number ≢ 8 → (call c g′ .0 ≡ call c g .0) × Both (call c g .1)
+      (call c g′ .1)
   unfolding call
   lock-step (startUpdate l k x y) n =
-      let S = subst (λ (w : List Updater). Same (Pair g g′) (after (g .tables) (g .updaters) (updateStart (g .tables) (g .updaters) l k x y)) (after (g′ .tables) w (updateStart (g′ .tables) w l k x y))) (sym (B .updaters)) (start-same g g′ G G′ B l k x y n) in
+      let S = subst (λ (w : List Updater). Same (Pair g g′)
+      (after (g .tables) (g .updaters) (updateStart (g .tables) (g .updaters) l k x y))
+      (after (g′ .tables) w (updateStart (g′ .tables) w l k x y))) (sym (B .updaters))
+      (start-same g g′ G G′ B l k x y n) in
       (answer-same (S .number) refl refl, after-update _ _ S)
   lock-step (stepUpdate l) n =
-      let m = subst (λ (w : List Updater). after (g′ .tables) w (updateStep (g′ .tables) w l) .number ≢ 12) (B .updaters) (call-good (stepUpdate l) g′ G′ .0) in
-      let S = subst (λ (w : List Updater). Same (Pair g g′) (after (g .tables) (g .updaters) (updateStep (g .tables) (g .updaters) l)) (after (g′ .tables) w (updateStep (g′ .tables) w l))) (sym (B .updaters)) (update-same g g′ G G′ B l (call-good (stepUpdate l) g G .0) m) in
+      let m = subst (λ (w : List Updater). after (g′ .tables) w (updateStep (g′ .tables) w l) .number ≢ 12)
+      (B .updaters) (call-good (stepUpdate l) g′ G′ .0) in
+      let S = subst (λ (w : List Updater). Same (Pair g g′)
+      (after (g .tables) (g .updaters) (updateStep (g .tables) (g .updaters) l))
+      (after (g′ .tables) w (updateStep (g′ .tables) w l))) (sym (B .updaters))
+      (update-same g g′ G G′ B l (call-good (stepUpdate l) g G .0) m) in
       (answer-same (S .number) refl refl, after-update _ _ S)
   lock-step (startQuery l u) n = let S = ask-same g g′ G G′ B l u n in (answer-same (S .number) refl refl, S .both)
-  lock-step (stepQuery l) n = let S = step-same g g′ G G′ B l (call-good (stepQuery l) g G .0) (call-good (stepQuery l) g′ G′ .0) in (answer-same (S .number) refl refl, S .both)
-  lock-step (collect l m) n = let S = collect-same g g′ G G′ B l m in (answer-same (S .number) (S .steps) (S .part), S .both)
+  lock-step (stepQuery l) n = let S = step-same g g′ G G′ B l (call-good (stepQuery l) g G .0)
+      (call-good (stepQuery l) g′ G′ .0) in (answer-same (S .number) refl refl, S .both)
+  lock-step (collect l m) n = let S = collect-same g g′ G G′ B l m in
+      (answer-same (S .number) (S .steps) (S .part), S .both)
   lock-step rewind n = rewind-same g g′ G G′ B

@@ -1,4 +1,5 @@
--- Stamps that say the same to both grids (specs/Alike.antt): those that are drawn, those that are copied, and those that a
+-- Stamps that say the same to both grids (specs/Alike.antt): those that are drawn, those that are copied, and those
+-- that a
 -- query finds which begins now.
 use mathlib.Core.Path.{_≡_, refl, sym, _∙_}
 use mathlib.Core.Bool.{Bool, true, false, _||_, _&&_}
@@ -42,7 +43,8 @@ like-above n n′ h h′ = record {
 }
 
 -- and below zero
-pub like-below : {O : ℕ → ℕ → Type 0} (n n′ : ℕ) → ((s s′ : ℕ) → O s s′ → (s ≤ n) × (s′ ≤ n′)) → Like O (negsuc n) (negsuc n′)
+pub like-below : {O : ℕ → ℕ → Type 0} (n n′ : ℕ) → ((s s′ : ℕ) → O s s′ → (s ≤ n) × (s′ ≤ n′)) → Like O (negsuc n)
+    (negsuc n′)
 like-below n n′ f = record {
   stands = refl;
   stood = refl;
@@ -50,7 +52,8 @@ like-below n n′ f = record {
 }
 
 -- the stamp that stage 13 gives
-pub like-flagged : {O : ℕ → ℕ → Type 0} (n n′ : ℕ) → ((s s′ : ℕ) → O s s′ → (s ≤ n) × (s′ ≤ n′)) → Like O (negℤ (pos (n + 1))) (negℤ (pos (n′ + 1)))
+pub like-flagged : {O : ℕ → ℕ → Type 0} (n n′ : ℕ) → ((s s′ : ℕ) → O s s′ → (s ≤ n) × (s′ ≤ n′)) → Like O
+    (negℤ (pos (n + 1))) (negℤ (pos (n′ + 1)))
 like-flagged n n′ f = rw (add-one n, add-one n′) (like-below n n′ f)
 
 -- a stamp that is not below zero and above the clock tells a query that begins now nothing but where its object stands
@@ -64,26 +67,30 @@ tells-new s (pos n) h = go (stands (pos n))
 tells-new s (negsuc n) h = le-ltb s (suc n) (h tt) ∙ refl
 
 -- one stamp set in both tables
-pub like-set : {O : ℕ → ℕ → Type 0} (ts ts′ : List ℤ) (j : ℕ) (z z′ : ℤ) → j < length ts → j < length ts′ → Like O z z′ → ((i : ℕ) → Like O (stampAt ts i) (stampAt ts′ i))
+pub like-set : {O : ℕ → ℕ → Type 0} (ts ts′ : List ℤ) (j : ℕ) (z z′ : ℤ) → j < length ts → j < length ts′
+    → Like O z z′ → ((i : ℕ) → Like O (stampAt ts i) (stampAt ts′ i))
     → (i : ℕ) → Like O (stampAt (set ts j z) i) (stampAt (set ts′ j z′) i)
 like-set ts ts′ j z z′ h h′ L f i = at-or i j
     (λ e. rw (e, getD-set-same ts j z (pos 0) h, getD-set-same ts′ j z′ (pos 0) h′) L)
     (λ n. rw (getD-set-other ts j i z (pos 0) n, getD-set-other ts′ j i z′ (pos 0) n) (f i))
 
-both-pos : (a b : Bool) (n m : ℕ) → Meet (λ (x y : Bool). x ≡ y) (signOf (pick a Never (Current n))) (signOf (pick b Never (Current m)))
+both-pos : (a b : Bool) (n m : ℕ) → Meet (λ (x y : Bool). x ≡ y) (signOf (pick a Never (Current n)))
+    (signOf (pick b Never (Current m)))
 unfolding signOf pick
 both-pos true b n m = left-refused
 both-pos false true n m = right-refused
 both-pos false false n m = both-done refl
 
-both-neg : (a b : Bool) (n m : ℕ) → Meet (λ (x y : Bool). x ≡ y) (signOf (pick a Never (Deleted n))) (signOf (pick b Never (Deleted m)))
+both-neg : (a b : Bool) (n m : ℕ) → Meet (λ (x y : Bool). x ≡ y) (signOf (pick a Never (Deleted n)))
+    (signOf (pick b Never (Deleted m)))
 unfolding signOf pick
 both-neg true b n m = left-refused
 both-neg false true n m = right-refused
 both-neg false false n m = both-done refl
 
 -- the sign that stage 7 looks at
-pub same-sign : {O : ℕ → ℕ → Type 0} {z z′ : ℤ} → Like O z z′ → Meet (λ (a b : Bool). a ≡ b) (signOf (stampOf z)) (signOf (stampOf z′))
+pub same-sign : {O : ℕ → ℕ → Type 0} {z z′ : ℤ} → Like O z z′ → Meet (λ (a b : Bool). a ≡ b) (signOf (stampOf z))
+    (signOf (stampOf z′))
 unfolding signOf stampOf
 same-sign {z = z} {z′ = z′} L = go z z′ (L .stood)
   where

@@ -1,5 +1,7 @@
--- A GRID THAT IS WOUND BACK AT REST is related to the grid that is not: every stamp keeps its sign, and there is no query to
--- tell the sizes apart. As every call keeps the relation (Calls.antt), every list of calls is answered alike; by induction
+-- A GRID THAT IS WOUND BACK AT REST is related to the grid that is not: every stamp keeps its sign, and there is no
+-- query to
+-- tell the sizes apart. As every call keeps the relation (Calls.antt), every list of calls is answered alike; by
+-- induction
 -- on the list.
 use mathlib.Core.Path.{_≡_, refl, ap, _∙_}
 use mathlib.Core.List.{List, [], _∷_}
@@ -59,7 +61,8 @@ go-both (c ∷ ds) g g′ G G′ B (and-none e n) =
     let r = go-both ds (call c g .1) (call c g′ .1) (call-good c g G .1) (call-good c g′ G′ .1) (w .1) n in
     (ap (λ (a : Answer). a ∷ answers ds (call c g′ .1)) (w .0) ∙ ap (λ (l : List Answer). call c g .0 ∷ l) (r .0), r .1)
 
--- THE GENERAL FORM: two grids of runs that differ in the sizes of stamps and in the clock alone, so that no query under way
+-- THE GENERAL FORM: two grids of runs that differ in the sizes of stamps and in the clock alone, so that no query
+-- under way
 -- can tell them apart, answer every list of calls alike until the one with the later clock gives 8.
 pub go-alike : (ds : List Call) (g g′ : Grid) → Good g → Good g′ → Both g g′ → NoEight (answers ds g)
     → answers ds g′ ≡ answers ds g
@@ -83,6 +86,8 @@ pub wound-lists : (cs ds : List Call) (q : ℕ) → WoundLists cs ds q
 wound-lists cs ds q e n =
     let w = wound-pair cs e in
     let B = go-both ds (kept cs) (rewound cs) (every cs) (w .0) (w .1) n .1 in
-    let h : run ds (rewound cs) .tables .hits ≡ run ds (kept cs) .tables .hits = ap (λ (t : Tables). t .hits) (B .tables .rest) in
-    let m : query (run ds (rewound cs)) q .hits ≡ query (run ds (kept cs)) q .hits = ap (λ (v : Query). v .hits) (B .queries q) in
+    let h : run ds (rewound cs) .tables .hits ≡ run ds (kept cs) .tables .hits = ap (λ (t : Tables). t .hits)
+    (B .tables .rest) in
+    let m : query (run ds (rewound cs)) q .hits ≡ query (run ds (kept cs)) q .hits = ap (λ (v : Query). v .hits)
+    (B .queries q) in
     rw (h, m)

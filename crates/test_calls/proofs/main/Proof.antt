@@ -1,0 +1,48 @@
+-- main ends: the arguments that are left get fewer.
+use Prim.Native.Nat.{_≤_, _-_}
+use borrow.Author.Needs.{needs}
+use Rattle.test_calls.proofs.main.Statement.{statement}
+use Rattle.test_calls.proofs.main.Tie as tie
+use Rattle.os.proofs.arg_count.Reads as arg-count-reads
+use Rattle.test_calls.proofs.calls.run_named.Reads as run-named-reads
+
+abbrev Inv-loop : tie.InvT-loop
+Inv-loop count i₀ i = Unit {0}
+
+abbrev μ-loop : tie.MeasureT-loop
+μ-loop count i₀ i = count - i
+
+arg-count-requires : tie.Need-arg-count-requires Inv-loop μ-loop
+arg-count-requires c κs = search needs
+
+loop-holds : tie.Need-loop-holds Inv-loop μ-loop
+loop-holds c = search needs
+
+run-named-requires : tie.Need-run-named-requires Inv-loop μ-loop
+run-named-requires c κs = search needs
+
+add-i : tie.Need-add-i Inv-loop μ-loop
+add-i c = search needs
+
+loop-less : tie.Need-loop-less Inv-loop μ-loop
+loop-less c = search needs
+
+loop-again : tie.Need-loop-again Inv-loop μ-loop
+loop-again c = search needs
+
+returns : tie.Need-returns Inv-loop μ-loop
+returns c = search needs
+
+pub main-spec : {M : Type 1} → statement M
+main-spec =
+    tie.close
+    (tie.spec
+    Inv-loop
+    μ-loop
+    arg-count-requires
+    loop-holds
+    run-named-requires
+    add-i
+    loop-less
+    loop-again
+    returns)
