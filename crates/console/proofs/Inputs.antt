@@ -14,11 +14,11 @@ use Rattle.script.specs.Parse.{parseLine}
 use Rattle.script.proofs.Theorems.{parse-kept}
 use Rattle.grid.specs.Run.{Grid}
 use Rattle.lines.specs.Line.{Lined, lineStep, commandStep}
-use Rattle.console.specs.Lines.{joined, lastLine, linesBehind, linesOf, keptLines}
-use Rattle.console.specs.Lines.{Cuts, over, another, ended, onward}
+use Rattle.streams.specs.Lines.{joined, lastLine, linesBehind, linesOf, keptLines}
+use Rattle.streams.specs.Lines.{Cuts, over, another, ended, onward}
 use Rattle.console.specs.Text.{textOf, lineText, scriptText}
-use Rattle.console.proofs.Cutting.{kept-again}
-use Rattle.console.proofs.Fetching.{cut-lines}
+use Rattle.streams.proofs.Cutting.{kept-again}
+use Rattle.streams.proofs.Fetching.{cut-lines}
 
 -- ---- from blocks
 

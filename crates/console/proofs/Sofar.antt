@@ -22,15 +22,15 @@ use Rattle.answers.specs.Printed.{Printed}
 use Rattle.grid.specs.Grid.{Lanes, lanesOf, resetGrid}
 use Rattle.grid.specs.Run.{Grid, gridOf, emptyGrid}
 use Rattle.lines.specs.Line.{lineStep}
-use Rattle.console.specs.Lines.{joined, keptLines}
+use Rattle.streams.specs.Lines.{joined, keptLines}
 use Rattle.console.specs.Text.{lineText, scriptText}
 use Rattle.console.specs.Turn.{Turn}
-use Rattle.console.specs.Reading.{unread}
-use Rattle.console.specs.Next.{atStart, Later, due, NextLine}
+use Rattle.streams.specs.Reading.{unread}
+use Rattle.streams.specs.Next.{atStart, Later, due, NextLine}
 use Rattle.console.specs.Run.{outputOf, Begins, Ran}
-use Rattle.console.specs.declared.progress.Progress.{Progress}
+use Rattle.streams.specs.declared.progress.Progress.{Progress}
 use Rattle.console.specs.declared.run.Ended.{Ended}
-use Rattle.console.proofs.Cutting.{joined-append, joined-more}
+use Rattle.streams.proofs.Cutting.{joined-append, joined-more}
 use Rattle.console.proofs.Inputs.{kept-output}
 
 -- so many lines are answered; the lines to come, by what is read later

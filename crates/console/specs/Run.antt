@@ -8,7 +8,7 @@ use mathlib.Core.List.{List, _++_}
 use Prim.Native.Nat.{ℕ}
 use lib.ListN.{replicate}
 use Rattle.grid.specs.Run.{emptyGrid}
-use Rattle.console.specs.Lines.{joined, linesOf}
+use Rattle.streams.specs.Lines.{joined, linesOf}
 use Rattle.console.specs.Text.{scriptText}
 use Rattle.console.specs.declared.run.Ended.{Ended}
 

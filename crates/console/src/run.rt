@@ -1,12 +1,12 @@
 // A whole run: a line in, its answer out, until the input ends.
 ghost use Rattle.console.specs.Run.{Ran};
-use crate::output::hand_over;
-use crate::progress::next_line;
-use crate::progress::no_progress;
 use crate::turn::Due;
 use crate::turn::answer_line;
 use grid::reset::reset;
 use queries::lanes::idle_queries;
+use streams::output::hand_over;
+use streams::progress::next_line;
+use streams::progress::no_progress;
 use updates::lanes::idle_updaters;
 use words::TIMES;
 use words::WORDS;

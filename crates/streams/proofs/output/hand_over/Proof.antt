@@ -2,10 +2,10 @@
 use mathlib.Core.Path.{sym}
 use lib.Seq.{length-take-le}
 use borrow.Author.Needs.{needs}
-use Rattle.console.proofs.output.hand_over.Statement.{statement}
-use Rattle.console.proofs.output.hand_over.Tie as tie
-use Rattle.console.proofs.output.hand_over.Reads as reads
-use Rattle.console.proofs.output.hand_over.Lts as lts
+use Rattle.streams.proofs.output.hand_over.Statement.{statement}
+use Rattle.streams.proofs.output.hand_over.Tie as tie
+use Rattle.streams.proofs.output.hand_over.Reads as reads
+use Rattle.streams.proofs.output.hand_over.Lts as lts
 use Rattle.io.proofs.write_all.Reads as write-all-reads
 
 -- src/output.rt:25:9

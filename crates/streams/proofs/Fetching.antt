@@ -11,13 +11,13 @@ use lib.ListN.{length, take, drop, length-take, length-drop, drop-of-length-le}
 use lib.Seq.{length-take-le}
 use Rattle.base.specs.Outcome.{pick}
 use Rattle.script.specs.Split.{before, behind, spent, Kept}
-use Rattle.console.specs.Lines.{joined, keptLines}
-use Rattle.console.specs.Reading.{coming, Gives, hasEnded, unread, Within}
-use Rattle.console.specs.Reading.{NewBlock, Turned, another, onward, Fetches}
-use Rattle.console.specs.declared.input.Fetched.{Fetched}
-use Rattle.console.specs.declared.input.Fetched.the-variants.{More, Line, End, Failed}
-use Rattle.console.specs.declared.input.Input.{Input}
-use Rattle.console.proofs.Cutting.{joined-more, lines-on, lines-cut, spent-all}
+use Rattle.streams.specs.Lines.{joined, keptLines}
+use Rattle.streams.specs.Reading.{coming, Gives, hasEnded, unread, Within}
+use Rattle.streams.specs.Reading.{NewBlock, Turned, another, onward, Fetches}
+use Rattle.streams.specs.declared.input.Fetched.{Fetched}
+use Rattle.streams.specs.declared.input.Fetched.the-variants.{More, Line, End, Failed}
+use Rattle.streams.specs.declared.input.Input.{Input}
+use Rattle.streams.proofs.Cutting.{joined-more, lines-on, lines-cut, spent-all}
 
 -- ---- a place behind the bytes that a block has
 

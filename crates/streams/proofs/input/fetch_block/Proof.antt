@@ -12,10 +12,10 @@ use mir.ValLaws.{toZ-ofZ}
 use Rattle.libc.specs.Io.{Moved}
 use Rattle.io.specs.Counts.{clamped}
 use borrow.Author.Needs.{needs}
-use Rattle.console.proofs.input.fetch_block.Statement.{statement}
-use Rattle.console.proofs.input.fetch_block.Tie as tie
-use Rattle.console.proofs.input.fetch_block.Reads as reads
-use Rattle.console.proofs.input.fetch_block.Lts as lts
+use Rattle.streams.proofs.input.fetch_block.Statement.{statement}
+use Rattle.streams.proofs.input.fetch_block.Tie as tie
+use Rattle.streams.proofs.input.fetch_block.Reads as reads
+use Rattle.streams.proofs.input.fetch_block.Lts as lts
 use Rattle.io.proofs.count.Reads as count-reads
 use Rattle.libc.proofs.read.Reads as read-reads
 

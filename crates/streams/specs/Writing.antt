@@ -2,7 +2,7 @@
 -- is dropped.
 use mathlib.Core.Path.{_≡_}
 use Prim.Native.Nat.{ℕ, _≤_}
-use Rattle.console.specs.declared.output.Output.{Output}
+use Rattle.streams.specs.declared.output.Output.{Output}
 
 pub data Room (waiting : ℕ) (r : Output) : Type 0 where
   waits : waiting ≤ 7872 → r .handed ≡ 0 → r .waiting ≡ waiting → Room waiting r

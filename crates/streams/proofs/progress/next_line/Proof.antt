@@ -1,17 +1,17 @@
 -- next_line makes room and reads a line: each return is a law of Ahead.antt, from what make_room, fetch_line and the
 -- tests of its answer ensure.
 use borrow.Author.Needs.{needs}
-use Rattle.console.proofs.Ahead.{next-stopped, next-read}
-use Rattle.console.proofs.progress.next_line.Statement.{statement}
-use Rattle.console.proofs.progress.next_line.Tie as tie
-use Rattle.console.proofs.progress.next_line.Reads as reads
-use Rattle.console.proofs.progress.next_line.Lts as lts
-use Rattle.console.proofs.input.fetch_line.Reads as fetch-line-reads
-use Rattle.console.proofs.input.has_ended.Reads as has-ended-reads
-use Rattle.console.proofs.input.has_failed.Reads as has-failed-reads
-use Rattle.console.proofs.input.has_line.Reads as has-line-reads
-use Rattle.console.proofs.output.make_room.Reads as make-room-reads
-use Rattle.console.proofs.progress.no_line.Reads as no-line-reads
+use Rattle.streams.proofs.Ahead.{next-stopped, next-read}
+use Rattle.streams.proofs.progress.next_line.Statement.{statement}
+use Rattle.streams.proofs.progress.next_line.Tie as tie
+use Rattle.streams.proofs.progress.next_line.Reads as reads
+use Rattle.streams.proofs.progress.next_line.Lts as lts
+use Rattle.streams.proofs.input.fetch_line.Reads as fetch-line-reads
+use Rattle.streams.proofs.input.has_ended.Reads as has-ended-reads
+use Rattle.streams.proofs.input.has_failed.Reads as has-failed-reads
+use Rattle.streams.proofs.input.has_line.Reads as has-line-reads
+use Rattle.streams.proofs.output.make_room.Reads as make-room-reads
+use Rattle.streams.proofs.progress.no_line.Reads as no-line-reads
 
 -- src/progress.rt:80:9
 make-room-requires : tie.Need-make-room-requires

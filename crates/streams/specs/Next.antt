@@ -5,10 +5,10 @@ use mathlib.Core.Bool.{Bool, true, false}
 use mathlib.Core.List.{List, [], _∷_, _++_}
 use Prim.Native.Nat.{ℕ, _≤_}
 use lib.ListN.{length, take}
-use Rattle.console.specs.Lines.{joined, keptLines}
-use Rattle.console.specs.Reading.{unread}
-use Rattle.console.specs.declared.output.Output.{Output}
-use Rattle.console.specs.declared.progress.Progress.{Progress}
+use Rattle.streams.specs.Lines.{joined, keptLines}
+use Rattle.streams.specs.Reading.{unread}
+use Rattle.streams.specs.declared.output.Output.{Output}
+use Rattle.streams.specs.declared.progress.Progress.{Progress}
 
 -- the start of a run
 abbrev pub atStart : Progress

@@ -9,16 +9,16 @@ use native.Mathlib.Omega.{arith}
 use lib.Dec.{ltb}
 use lib.ListN.{length, take}
 use borrow.Author.Tests.{lt-ltb}
-use Rattle.console.specs.Lines.{joined, lastLine, keptLines}
-use Rattle.console.specs.Reading.{coming, hasLine, hasEnded, unread, Fetches}
-use Rattle.console.specs.Writing.{Room, waits, handed}
-use Rattle.console.specs.Next.{noLine, Later, due, NextLine}
-use Rattle.console.specs.declared.input.Fetched.{Fetched}
-use Rattle.console.specs.declared.input.Fetched.the-variants.{More, Line, End, Failed}
-use Rattle.console.specs.declared.input.Input.{Input}
-use Rattle.console.specs.declared.output.Output.{Output}
-use Rattle.console.specs.declared.progress.Progress.{Progress}
-use Rattle.console.proofs.Fetching.{unread-none}
+use Rattle.streams.specs.Lines.{joined, lastLine, keptLines}
+use Rattle.streams.specs.Reading.{coming, hasLine, hasEnded, unread, Fetches}
+use Rattle.streams.specs.Writing.{Room, waits, handed}
+use Rattle.streams.specs.Next.{noLine, Later, due, NextLine}
+use Rattle.streams.specs.declared.input.Fetched.{Fetched}
+use Rattle.streams.specs.declared.input.Fetched.the-variants.{More, Line, End, Failed}
+use Rattle.streams.specs.declared.input.Input.{Input}
+use Rattle.streams.specs.declared.output.Output.{Output}
+use Rattle.streams.specs.declared.progress.Progress.{Progress}
+use Rattle.streams.proofs.Fetching.{unread-none}
 
 -- ---- room
 

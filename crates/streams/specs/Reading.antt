@@ -8,10 +8,10 @@ use lib.Dec.{ltb}
 use lib.ListN.{length, take, drop}
 use Rattle.base.specs.Outcome.{pick}
 use Rattle.script.specs.Split.{Kept}
-use Rattle.console.specs.Lines.{joined, keptLines}
-use Rattle.console.specs.declared.input.Fetched.{Fetched}
-use Rattle.console.specs.declared.input.Fetched.the-variants.{More, Line, End, Failed}
-use Rattle.console.specs.declared.input.Input.{Input}
+use Rattle.streams.specs.Lines.{joined, keptLines}
+use Rattle.streams.specs.declared.input.Fetched.{Fetched}
+use Rattle.streams.specs.declared.input.Fetched.the-variants.{More, Line, End, Failed}
+use Rattle.streams.specs.declared.input.Input.{Input}
 
 -- ---- what each case of `Fetched` means
 

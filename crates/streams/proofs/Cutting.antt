@@ -14,7 +14,7 @@ use lib.ListN.{length, take, drop, length-take, length-append, drop-of-length-le
 use lib.Seq.{take-all, take-at, length-take-le, take-append-le, append-snoc}
 use Rattle.base.specs.Outcome.{pick}
 use Rattle.script.specs.Split.{before, behind, spent}
-use Rattle.console.specs.Lines.{joined, lastLine, keptLines}
+use Rattle.streams.specs.Lines.{joined, lastLine, keptLines}
 
 -- ---- blocks one behind the other
 

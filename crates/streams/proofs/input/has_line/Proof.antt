@@ -1,12 +1,12 @@
 -- has_line answers what `hasLine` says of each case.
 use mathlib.Core.Path.{sym, ap}
 use borrow.Author.Needs.{needs}
-use Rattle.console.specs.Reading.{hasLine}
-use Rattle.console.specs.declared.input.Fetched.{Fetched}
-use Rattle.console.proofs.input.has_line.Statement.{statement}
-use Rattle.console.proofs.input.has_line.Tie as tie
-use Rattle.console.proofs.input.has_line.Reads as reads
-use Rattle.console.proofs.input.has_line.Lts as lts
+use Rattle.streams.specs.Reading.{hasLine}
+use Rattle.streams.specs.declared.input.Fetched.{Fetched}
+use Rattle.streams.proofs.input.has_line.Statement.{statement}
+use Rattle.streams.proofs.input.has_line.Tie as tie
+use Rattle.streams.proofs.input.has_line.Reads as reads
+use Rattle.streams.proofs.input.has_line.Lts as lts
 
 -- src/input.rt:113:26
 enum-told : tie.Need-enum-told

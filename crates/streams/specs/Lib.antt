@@ -1,0 +1,4 @@
+pub mod Lines
+pub mod Next
+pub mod Reading
+pub mod Writing
