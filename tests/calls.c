@@ -11,6 +11,9 @@
  *                                carrier,x,y,mark,stamp,former stamp or none (the mark is 0; no place: none,none,..)
  *   set TABLE INDEX FIELD VALUE  n,0: puts a number into a table; `tables` below has all of them, - is no index or field
  *   same                         n,yes if the deck is as before the line before this one, else n,no
+ *   changed                      n,how many numbers of the deck the line before this one changed; then each of them:
+ *                                table,index,field,before,after
+ *   # ...                        a remark, printed as it is
  *
  * A list that is lent is watched: what a call has to leave alone and did not is said on standard error, with status 1.
  * A line that is none of these is 13 in a script and ends the run with status 2 elsewhere if it looks like a call.
@@ -275,13 +278,47 @@ static void call_set(char **word)
     answer(0);
 }
 
+/* The numbers of a table that the line before changed: prints them if asked to, and gives how many they are. */
+static uint32_t changes_of(const struct table *t, int print)
+{
+    const int32_t *stamps = deck.times;
+    const char *base = t->base ? (const char *)t->base : (const char *)stamps;
+    const char *was = (const char *)&older + (base - (const char *)&deck);
+    uint32_t at, n = 0;
+    for (at = 0; at < t->size; at++) {
+        uint32_t before, after;
+        memcpy(&before, was + 4 * at * t->width, 4);
+        memcpy(&after, base + 4 * at * t->width, 4);
+        if (before == after) continue;
+        n++;
+        if (!print) continue;
+        printf("%s,", t->name);
+        if (t->parts) printf("%" PRIu32 ".%" PRIu32, at / t->parts, at % t->parts);
+        else if (t->size > 1) printf("%" PRIu32, at);
+        else printf("-");
+        if (t->form == STAMP) printf(",%s,%" PRId32 ",%" PRId32 "\n", t->field, (int32_t)before, (int32_t)after);
+        else printf(",%s,%" PRIu32 ",%" PRIu32 "\n", t->field, before, after);
+    }
+    return n;
+}
+
+static void call_changed(char **word)
+{
+    const struct table *t, *end = tables + sizeof tables / sizeof *tables;
+    uint32_t n = 0;
+    (void)word;
+    for (t = tables; t < end; t++) n += changes_of(t, 0);
+    printf("%" PRIu64 ",%" PRIu32 "\n", line_number, n);
+    for (t = tables; t < end; t++) changes_of(t, 1);
+}
+
 static const struct call {
     const char *name;
     int words; /* its name and what follows */
     void (*run)(char **word);
 } calls[] = {
-    {"collect", 3, call_collect}, {"read", 3, call_read}, {"run", 4, call_run},
-    {"same", 1, call_same},       {"set", 5, call_set},   {"show", 1, call_show},
+    {"changed", 1, call_changed}, {"collect", 3, call_collect}, {"read", 3, call_read}, {"run", 4, call_run},
+    {"same", 1, call_same},       {"set", 5, call_set},         {"show", 1, call_show},
 };
 
 /* Makes the call of a line if it begins with a call's name, which no line of a script does. */
@@ -295,6 +332,10 @@ static int named_call(const char *line)
     if (!copy) stop(2, "no memory", NULL);
     strcpy(copy, line);
     for (word[0] = strtok(copy, " "); n < 7 && word[n]; word[++n] = strtok(NULL, " ")) {}
+    if (line[0] == '#') {
+        puts(line);
+        return 1;
+    }
     if (n == 0 || word[0][0] < 'a' || word[0][0] > 'z') return 0;
     for (i = 0; i < sizeof calls / sizeof *calls; i++) {
         if (strcmp(calls[i].name, word[0])) continue;
