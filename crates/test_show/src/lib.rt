@@ -9,30 +9,6 @@ ghost use Rattle.base.specs.Lent.{old, new};
 ghost use Rattle.words.specs.Part.{put};
 use libc::STDOUT_FILENO;
 use tables::fill::fill_numbers;
-use words::COUNT;
-use words::NEXT;
-use words::READERS;
-use words::TUPLE_XS;
-use words::TUPLE_YS;
-use words::TUPLES;
-
-// In the words: the columns of the tuples. That of the objects begins at TUPLES.
-pub const XS: usize = TUPLES + TUPLE_XS;
-
-pub const YS: usize = TUPLES + TUPLE_YS;
-
-// In the words: the numbers of bucket 3, and the tuple in its slot 1, which is number 13 of all slots.
-pub const COUNT_3: usize = COUNT + 3;
-
-pub const NEXT_3: usize = NEXT + 3;
-
-pub const READERS_3: usize = READERS + 3;
-
-pub const TUPLE_OID: usize = TUPLES + 13;
-
-pub const TUPLE_X: usize = XS + 13;
-
-pub const TUPLE_Y: usize = YS + 13;
 
 // Whether two tables have the same numbers.
 pub fn same_numbers(a: &[u32], b: &[u32]) -> bool
