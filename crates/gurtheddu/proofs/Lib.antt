@@ -2,3 +2,4 @@ mod Ends
 mod OfUpdates
 mod OfQueries
 mod Fresh
+pub mod Runs

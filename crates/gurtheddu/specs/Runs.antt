@@ -1,0 +1,43 @@
+-- A CODED RUN IS SO MANY CALLS: what a run of up to n steps in one of the coded lanes comes to, with its lanes decoded, is what n calls of report step, or of sweep
+-- step, in that lane come to on the decoded lanes, one after the other, up to the first number that is not 0. That it holds is proofs/Runs.antt.
+-- A lane that is none gives 1 and a number that names no stage gives 12, in the run by its definition: there is no call on decoded lanes to compare it with.
+use mathlib.Core.Path.{_≡_}
+use mathlib.Core.Bool.{true}
+use mathlib.Core.List.{List, [], _∷_}
+use Prim.Native.Nat.{ℕ, zero, suc, _<_}
+use lib.ListN.{length}
+use Rattle.stage.specs.declared.Updater.{Updater}
+use Rattle.query.specs.declared.Query.{Query}
+use Rattle.tables.specs.Tables.{Tables}
+use Rattle.calls.specs.Run.{Ran, ranOf}
+use Rattle.update_run.specs.Run.{runLane}
+use Rattle.query_run.specs.Run.{runLane as runQueries}
+use Rattle.codes.specs.Updaters.{namesStage, updaterIn}
+use Rattle.codes.specs.Queries.{namesScan, queryIn}
+use Rattle.gurtheddu.specs.Coded.{runUpdate, runSweep}
+
+-- what is in the lanes k, k + 1, .., n of them
+unfoldable pub lanesFrom : {L : Type 0} → (ℕ → L) → ℕ → ℕ → List L
+lanesFrom f k zero = []
+lanesFrom f k (suc n) = f k ∷ lanesFrom f (suc k) n
+
+-- the updates, and the queries, of the lanes' numbers
+abbrev pub updatersIn : List ℕ → List Updater
+updatersIn ns = lanesFrom (updaterIn ns) 0 8
+
+abbrev pub queriesIn : List ℕ → List Query
+queriesIn ns = lanesFrom (queryIn ns) 0 4
+
+-- a run with its lanes decoded
+abbrev pub decodedRun : {L : Type 0} → (List ℕ → L) → Ran (List ℕ) → Ran L
+decodedRun decode r = ranOf (r .number) (r .made) (r .tables) (decode (r .lanes))
+
+abbrev pub UpdateRunIsCalls : Type 0
+UpdateRunIsCalls =
+    (n l : ℕ) (t : Tables) (ns : List ℕ) → length ns ≡ 72 → l < 8 → namesStage ns l ≡ true
+    → decodedRun updatersIn (runUpdate n l t ns) ≡ runLane n l t (updatersIn ns)
+
+abbrev pub SweepRunIsCalls : Type 0
+SweepRunIsCalls =
+    (n l : ℕ) (t : Tables) (ns : List ℕ) → length ns ≡ 44 → l < 4 → namesScan ns l ≡ true
+    → decodedRun queriesIn (runSweep n l t ns) ≡ runQueries n l t (queriesIn ns)
