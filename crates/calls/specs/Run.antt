@@ -2,6 +2,7 @@
 use mathlib.Core.Bool.{_||_}
 use Prim.Native.Nat.{ℕ, zero, suc, _+_}
 use lib.Dec.{eqb}
+use Rattle.base.specs.Numbers.{DONE, RESTARTED, FINISHED}
 use Rattle.base.specs.Outcome.{pick}
 use Rattle.tables.specs.Tables.{Tables}
 use Rattle.calls.specs.Call.{Result, after}
@@ -18,7 +19,7 @@ ranOf n m t ls = record { number = n; made = m; tables = t; lanes = ls }
 
 -- A step is carried out if it moves on, goes back or finishes; one that is blocked or refused changes nothing and does not count.
 unfoldable pub carriedOut : ℕ → ℕ
-carriedOut n = pick (eqb n 0 || (eqb n 21 || eqb n 22)) 1 0
+carriedOut n = pick (eqb n DONE || (eqb n RESTARTED || eqb n FINISHED)) 1 0
 
 -- with k steps before it
 abbrev pub later : {L : Type 0} → ℕ → Ran L → Ran L
@@ -26,9 +27,9 @@ later k r = ranOf (r .number) (k + r .made) (r .tables) (r .lanes)
 
 -- up to n steps
 unfoldable pub runSteps : {L : Type 0} → (Tables → L → Result L) → ℕ → Tables → L → Ran L
-runSteps step zero t ls = ranOf 0 0 t ls
+runSteps step zero t ls = ranOf DONE 0 t ls
 runSteps step (suc n) t ls =
     let a = after t ls (step t ls) in
-    pick (eqb (a .number) 0)
+    pick (eqb (a .number) DONE)
     (later 1 (runSteps step n (a .tables) (a .lanes)))
     (ranOf (a .number) (carriedOut (a .number)) (a .tables) (a .lanes))

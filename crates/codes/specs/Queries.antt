@@ -16,6 +16,16 @@ use Rattle.query.specs.declared.Query.{Query}
 use Rattle.queries.specs.Query.{questionOf}
 use Rattle.codes.specs.declared.query_lane.ScanCode.{ScanCode}
 
+-- how many numbers a lane is, where the number of what comes next is, and the last such number
+abbrev pub QUERY-NUMBERS : ℕ
+QUERY-NUMBERS = 11
+
+abbrev pub SCAN-AT : ℕ
+SCAN-AT = 7
+
+abbrev pub LAST-SCAN : ℕ
+LAST-SCAN = 3
+
 abbrev pub standingOf : ℕ → ℕ → Standing
 standingOf b n = record { bucket = b; left = n }
 
@@ -47,14 +57,14 @@ decodeQuery v =
 
 -- the number of what comes next in lane l, and whether it names anything
 abbrev pub scanIn : List ℕ → ℕ → ℕ
-scanIn ns l = at ns (11 * l + 7)
+scanIn ns l = at ns (QUERY-NUMBERS * l + SCAN-AT)
 
 abbrev pub namesScan : List ℕ → ℕ → Bool
-namesScan ns l = leb (scanIn ns l) 3
+namesScan ns l = leb (scanIn ns l) LAST-SCAN
 
 -- the query in lane l, and the lanes with another one there
 abbrev pub queryIn : List ℕ → ℕ → Query
-queryIn ns l = decodeQuery (part (11 * l) 11 ns)
+queryIn ns l = decodeQuery (part (QUERY-NUMBERS * l) QUERY-NUMBERS ns)
 
 abbrev pub withQuery : List ℕ → ℕ → Query → List ℕ
-withQuery ns l q = sets ns (11 * l) (codeQuery q)
+withQuery ns l q = sets ns (QUERY-NUMBERS * l) (codeQuery q)

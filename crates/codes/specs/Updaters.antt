@@ -14,6 +14,16 @@ use Rattle.stage.specs.declared.Stage.the-variants.{Idle, TakeObject, LockCell,
 use Rattle.stage.specs.declared.Updater.{Updater}
 use Rattle.codes.specs.declared.update_lane.StageCode.{StageCode}
 
+-- how many numbers a lane is, where its stage is, and the number of the last stage
+abbrev pub UPDATER-NUMBERS : ℕ
+UPDATER-NUMBERS = 9
+
+abbrev pub STAGE-AT : ℕ
+STAGE-AT = 3
+
+abbrev pub LAST-STAGE : ℕ
+LAST-STAGE = 14
+
 abbrev pub placeOf : ℕ → ℕ → ℕ → Place
 placeOf c b s = record { cell = c; bucket = b; slot = s }
 
@@ -76,14 +86,14 @@ startedUpdater k x y = record { oid = k; x = x; y = y; stage = TakeObject }
 
 -- the number of the stage of lane l, and whether it names one
 abbrev pub stageIn : List ℕ → ℕ → ℕ
-stageIn ns l = at ns (9 * l + 3)
+stageIn ns l = at ns (UPDATER-NUMBERS * l + STAGE-AT)
 
 abbrev pub namesStage : List ℕ → ℕ → Bool
-namesStage ns l = leb (stageIn ns l) 14
+namesStage ns l = leb (stageIn ns l) LAST-STAGE
 
 -- the update in lane l, and the lanes with another one there
 abbrev pub updaterIn : List ℕ → ℕ → Updater
-updaterIn ns l = decodeUpdater (part (9 * l) 9 ns)
+updaterIn ns l = decodeUpdater (part (UPDATER-NUMBERS * l) UPDATER-NUMBERS ns)
 
 abbrev pub withUpdater : List ℕ → ℕ → Updater → List ℕ
-withUpdater ns l u = sets ns (9 * l) (codeUpdater u)
+withUpdater ns l u = sets ns (UPDATER-NUMBERS * l) (codeUpdater u)

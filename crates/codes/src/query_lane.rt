@@ -10,7 +10,7 @@ ghost use Rattle.queries.specs.Query.{isIdle};
 ghost use Rattle.query.specs.Scan.{queryOf};
 ghost use Rattle.query.specs.declared.Scan.the-variants.{Enter};
 ghost use Rattle.collect.specs.Collect.{idled};
-ghost use Rattle.codes.specs.Queries.{codeScan, scanOf, codeQuery, decodeQuery};
+ghost use Rattle.codes.specs.Queries.{QUERY-NUMBERS, codeScan, scanOf, codeQuery, decodeQuery};
 use layout::question::Question;
 use query::Query;
 use query::Scan;
@@ -98,7 +98,7 @@ pub fn seen_query(stage: u32) -> Query
 // The query whose numbers begin there.
 pub fn load_query(lanes: &[u32; 44], at: usize) -> Query
     requires { ⌜ at ≤ 33 ⌝ }
-    ensures { λ r. ⌜ r ≡ decodeQuery (part at 11 (old lanes)) ⌝ }
+    ensures { λ r. ⌜ r ≡ decodeQuery (part at QUERY-NUMBERS (old lanes)) ⌝ }
 {
     let question = Question {
         x0: lanes[at],
@@ -163,7 +163,7 @@ pub fn store_begun(lanes: &mut [u32; 44], at: usize, question: Question, stamp: 
 // Makes the query whose numbers begin there idle.
 pub fn store_idle(lanes: &mut [u32; 44], at: usize)
     requires { ⌜ at ≤ 33 ⌝ }
-    ensures { λ r. ⌜ new lanes ≡ sets (old lanes) at (codeQuery (idled (decodeQuery (part at 11 (old lanes))))) ⌝ }
+    ensures { λ r. ⌜ new lanes ≡ sets (old lanes) at (codeQuery (idled (decodeQuery (part at QUERY-NUMBERS (old lanes))))) ⌝ }
 {
     lanes[at + SCAN_AT] = 0;
     lanes[at + 8] = 0;

@@ -7,7 +7,7 @@ ghost use lib.Dec.{eqb};
 ghost use lib.Seq.{sets};
 ghost use Rattle.words.specs.Part.{part};
 ghost use Rattle.stage.specs.Turn.{isIdle};
-ghost use Rattle.codes.specs.Updaters.{stageCode, codeStage, stageOf, codeUpdater, decodeUpdater, startedUpdater};
+ghost use Rattle.codes.specs.Updaters.{UPDATER-NUMBERS, stageCode, codeStage, stageOf, codeUpdater, decodeUpdater, startedUpdater};
 use layout::place::Place;
 use stage::Stage;
 use stage::Updater;
@@ -133,7 +133,7 @@ pub fn seen_updater(stage: u32) -> Updater
 // The update whose numbers begin there.
 pub fn load_updater(lanes: &[u32; 72], at: usize) -> Updater
     requires { ⌜ at ≤ 63 ⌝ }
-    ensures { λ r. ⌜ r ≡ decodeUpdater (part at 9 (old lanes)) ⌝ }
+    ensures { λ r. ⌜ r ≡ decodeUpdater (part at UPDATER-NUMBERS (old lanes)) ⌝ }
 {
     let place = Place {
         cell: lanes[at + 4],

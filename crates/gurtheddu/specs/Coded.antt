@@ -5,6 +5,7 @@ use mathlib.Core.List.{List}
 use Prim.Native.Nat.{ℕ}
 use lib.Dec.{eqb, ltb}
 use lib.ListN.{length, replicate}
+use Rattle.base.specs.Numbers.{DONE, NO-SUCH-LANE, CORRUPT}
 use Rattle.base.specs.Outcome.{pick}
 use Rattle.layout.specs.declared.question.Question.{Question}
 use Rattle.tables.specs.Tables.{Tables, rightLengths, emptyTables}
@@ -30,32 +31,32 @@ codedRun ns store r = ranOf (r .number) (r .made) (r .tables) (pick (eqb (r .mad
 -- A START of an update of object k, to stand at (x, y), in lane l.
 unfoldable pub startUpdate : Tables → List ℕ → ℕ → ℕ → ℕ → ℕ → Result (List ℕ)
 startUpdate t ns l k x y =
-    unless (ltb l 8) 1
-    (unless (namesStage ns l) 12
+    unless (ltb l 8) NO-SUCH-LANE
+    (unless (namesStage ns l) CORRUPT
     (coded (withUpdater ns l) (startOne t l (updaterIn ns l) k x y)))
 
 -- UP TO n STEPS of the update in lane l.
 unfoldable pub runUpdate : ℕ → ℕ → Tables → List ℕ → Ran (List ℕ)
 runUpdate n l t ns =
-    pick (eqb n 0) (ranOf 0 0 t ns)
+    pick (eqb n 0) (ranOf DONE 0 t ns)
     (pick (ltb l 8)
-    (pick (namesStage ns l) (codedRun ns (withUpdater ns l) (runOne n l t (updaterIn ns l))) (ranOf 12 0 t ns))
-    (ranOf 1 0 t ns))
+    (pick (namesStage ns l) (codedRun ns (withUpdater ns l) (runOne n l t (updaterIn ns l))) (ranOf CORRUPT 0 t ns))
+    (ranOf NO-SUCH-LANE 0 t ns))
 
 -- A START of a query with the question u in lane l.
 unfoldable pub startSweep : Tables → List ℕ → ℕ → Question → Result (List ℕ)
 startSweep t ns l u =
-    unless (ltb l 4) 1
-    (unless (namesScan ns l) 12
+    unless (ltb l 4) NO-SUCH-LANE
+    (unless (namesScan ns l) CORRUPT
     (coded (withQuery ns l) (startQuery t l (queryIn ns l) u)))
 
 -- UP TO n STEPS of the query in lane l.
 unfoldable pub runSweep : ℕ → ℕ → Tables → List ℕ → Ran (List ℕ)
 runSweep n l t ns =
-    pick (eqb n 0) (ranOf 0 0 t ns)
+    pick (eqb n 0) (ranOf DONE 0 t ns)
     (pick (ltb l 4)
-    (pick (namesScan ns l) (codedRun ns (withQuery ns l) (runQuery n l t (queryIn ns l))) (ranOf 12 0 t ns))
-    (ranOf 1 0 t ns))
+    (pick (namesScan ns l) (codedRun ns (withQuery ns l) (runQuery n l t (queryIn ns l))) (ranOf CORRUPT 0 t ns))
+    (ranOf NO-SUCH-LANE 0 t ns))
 
 -- what a collection comes to: the number, the tables and the lanes afterwards, the steps, how many numbers are filled, and the lent list afterwards
 pub record HandedBack : Type 0 where
@@ -92,5 +93,5 @@ lanesOf us qs = record { updaters = us; queries = qs }
 -- A FRESH DECK: the empty grid, and every number of every lane 0, which is the code of an idle lane.
 unfoldable pub resetDeck : Tables → Lanes → Result Lanes
 resetDeck t ls =
-    unless (rightLengths t) 12
-    (answered 0 emptyTables (lanesOf (replicate (length (ls .updaters)) 0) (replicate (length (ls .queries)) 0)))
+    unless (rightLengths t) CORRUPT
+    (answered DONE emptyTables (lanesOf (replicate (length (ls .updaters)) 0) (replicate (length (ls .queries)) 0)))

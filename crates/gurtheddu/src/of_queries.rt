@@ -2,6 +2,9 @@
 ghost use Rattle.tables.specs.Promise.{OnGrid};
 ghost use Rattle.queries.specs.Query.{questionOf};
 ghost use Rattle.gurtheddu.specs.Promise.{StartsSweep, RunsSweep, CollectsFrom};
+use base::CORRUPT;
+use base::DONE;
+use base::NO_SUCH_LANE;
 use base::QUERY_COUNT;
 use codes::query_lane::LAST_SCAN;
 use codes::query_lane::QUERY_NUMBERS;
@@ -32,23 +35,23 @@ pub extern "C" fn gurtheddu_query_start(
     ensures { λ r. ⌜ OnGrid words times (StartsSweep queries lane (questionOf x0 y0 x1 y1) r) ⌝ }
 {
     if lane >= QUERY_COUNT {
-        return 1;
+        return NO_SUCH_LANE;
     }
     let at = QUERY_NUMBERS * (lane as usize);
     let stage = queries[at + SCAN_AT];
     if stage > LAST_SCAN {
-        return 12;
+        return CORRUPT;
     }
     let question = Question { x0, y0, x1, y1 };
     let p = seen_query(stage);
     let one = start_one(p, lane, x0, y0, x1, y1, words, times);
-    if one.number != 0 {
+    if one.number != DONE {
         return one.number;
     }
     let visit = first_cell(question);
     let q = one.query;
     store_begun(queries, at, question, q.stamp, visit.cell);
-    0
+    DONE
 }
 
 // So many steps of a query, ended by the first number that is not 0. Gives 0 if all of them did, else the first other number: 20 or 22, or is refused
@@ -66,14 +69,14 @@ pub extern "C" fn gurtheddu_query_run(
 {
     *made = 0;
     if budget == 0 {
-        return 0;
+        return DONE;
     }
     if lane >= QUERY_COUNT {
-        return 1;
+        return NO_SUCH_LANE;
     }
     let at = QUERY_NUMBERS * (lane as usize);
     if queries[at + SCAN_AT] > LAST_SCAN {
-        return 12;
+        return CORRUPT;
     }
     let q = load_query(queries, at);
     let ran = run_query(q, lane, words, times, budget);

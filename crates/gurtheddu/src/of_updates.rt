@@ -1,6 +1,9 @@
 // The calls of updates (document 01: report start, and report steps in a row).
 ghost use Rattle.tables.specs.Promise.{OnGrid};
 ghost use Rattle.gurtheddu.specs.Promise.{StartsUpdate, RunsUpdate};
+use base::CORRUPT;
+use base::DONE;
+use base::NO_SUCH_LANE;
 use base::UPDATER_COUNT;
 use codes::update_lane::LAST_STAGE;
 use codes::update_lane::STAGE_AT;
@@ -26,20 +29,20 @@ pub extern "C" fn gurtheddu_update_start(
     ensures { λ r. ⌜ OnGrid words times (StartsUpdate updaters lane oid x y r) ⌝ }
 {
     if lane >= UPDATER_COUNT {
-        return 1;
+        return NO_SUCH_LANE;
     }
     let at = UPDATER_NUMBERS * (lane as usize);
     let stage = updaters[at + STAGE_AT];
     if stage > LAST_STAGE {
-        return 12;
+        return CORRUPT;
     }
     let u = seen_updater(stage);
     let one = start_one(u, lane, oid, x, y, words, times);
-    if one.number != 0 {
+    if one.number != DONE {
         return one.number;
     }
     store_started(updaters, at, oid, x, y);
-    0
+    DONE
 }
 
 // So many steps of an update, ended by the first number that is not 0. Gives 0 if all of them did, else the first other number: 20, 21 or 22, or is
@@ -57,14 +60,14 @@ pub extern "C" fn gurtheddu_update_run(
 {
     *made = 0;
     if budget == 0 {
-        return 0;
+        return DONE;
     }
     if lane >= UPDATER_COUNT {
-        return 1;
+        return NO_SUCH_LANE;
     }
     let at = UPDATER_NUMBERS * (lane as usize);
     if updaters[at + STAGE_AT] > LAST_STAGE {
-        return 12;
+        return CORRUPT;
     }
     let u = load_updater(updaters, at);
     let ran = run_update(u, lane, words, times, budget);

@@ -1,6 +1,7 @@
 // The empty grid (document 01: a fresh deck).
 ghost use Rattle.tables.specs.Promise.{OnGrid};
 ghost use Rattle.gurtheddu.specs.Promise.{ResetsDeck};
+use base::DONE;
 use grid::reset::reset;
 use queries::lanes::idle_queries;
 use tables::fill::fill_numbers;
@@ -19,10 +20,10 @@ pub extern "C" fn gurtheddu_reset(
     let us = idle_updaters();
     let qs = idle_queries();
     let fresh = reset(us, qs, words, times);
-    if fresh.number != 0 {
+    if fresh.number != DONE {
         return fresh.number;
     }
     fill_numbers(updaters, 0);
     fill_numbers(queries, 0);
-    0
+    DONE
 }
