@@ -36,8 +36,10 @@ use Rattle.turns.specs.Stages.{stageOn}
 use Rattle.updates.specs.Update.{idleUpdater, putStage, updateStep, hasRoom, started, updateStart}
 use Rattle.queries.specs.Scans.{scanOn}
 use Rattle.queries.specs.Query.{idleQuery, isIdle as isIdleQuery, isFinished, queryStep, queryStart, begun}
-use Rattle.collect.specs.Collect.{Handed, handedOf, idled, collectQuery, entriesFrom}
-use Rattle.grid.specs.Run.{Grid, gridOf, Call, startUpdate, stepUpdate, startQuery, stepQuery, collect, rewind}
+use Rattle.collect.specs.Collect.{Handed, handedOf, idled, readQuery, clearQuery, collectQuery, entriesFrom}
+use Rattle.collect.proofs.Both.{collect-as-before}
+use Rattle.collect.proofs.Cases.{takenOut}
+use Rattle.grid.specs.Run.{Grid, gridOf, Call, startUpdate, stepUpdate, startQuery, stepQuery, collect, read, clear, rewind}
 use Rattle.grid.specs.Run.{Answer, call}
 use Rattle.rest.specs.Rest.{atRest}
 use Rattle.rest.proofs.Facts.{facts-at-rest}
@@ -405,9 +407,9 @@ module _ (g g′ : Grid) (G : Good g) (G′ : Good g′) (B : Both g g′) (l : 
       (λ h₂. rw (z, z′, h₁, h₂, e ∙ h₂) (λ n. away 2)))
       (λ h₁. rw (z, z′, h₁) (λ n. away 1))
 
-  -- ---- a collection
+  -- ---- a reading, a collection, a clearing
 
-  -- what two collections come to
+  -- what two readings or collections come to
   record SameC (a a′ : After Handed) : Type 0 where
     pub number : a′ .number ≡ a .number
     pub steps : a′ .lanes .steps ≡ a .lanes .steps
@@ -415,18 +417,30 @@ module _ (g g′ : Grid) (G : Good g) (G′ : Good g′) (B : Both g g′) (l : 
     pub both : Both (gridOf (a .tables) (g .updaters) (a .lanes .queries))
         (gridOf (a′ .tables) (g′ .updaters) (a′ .lanes .queries))
 
-  refused-both : (n : ℕ) → SameC (after (g .tables) (handedOf qs 0 []) (refused n))
-      (after (g′ .tables) (handedOf qs′ 0 []) (refused n))
+  abbrev GoesC : Result Handed → Result Handed → Type 0
+  GoesC r r′ = SameC (after (g .tables) (handedOf qs 0 []) r) (after (g′ .tables) (handedOf qs′ 0 []) r′)
+
+  refused-both : (n : ℕ) → GoesC (refused n) (refused n)
   unfolding after
   refused-both n = record { number = refl; steps = refl; part = refl; both = B }
 
   hits-same : g′ .tables .hits ≡ g .tables .hits
   hits-same = ap (λ (x : Tables). x .hits) (B .tables .rest)
 
-  collect-same : (n : ℕ) → SameC (after (g .tables) (handedOf qs 0 []) (collectQuery (g .tables) qs l n))
-      (after (g′ .tables) (handedOf qs′ 0 []) (collectQuery (g′ .tables) qs′ l n))
-  unfolding collectQuery unless after
-  collect-same n =
+  -- the tests of a reading, and what is past them
+  abbrev tested : Tables → Query → ℕ → Result Handed → Result Handed
+  tested t q n k =
+      unless (rightLengths t) 12
+      (unless (ltb l 4) 1
+      (unless (not (isIdleQuery (q .stage))) 3
+      (unless (isFinished (q .stage)) 10
+      (unless (leb (3 * q .hits) n) 11
+      (unless (leb (q .hits) 256) 12 k)))))
+
+  tests-same : (n : ℕ) (k k′ : Result Handed) → (l < 4 → q₀ .stage ≢ Idle → GoesC k k′)
+      → GoesC (tested (g .tables) q₀ n k) (tested (g′ .tables) (query g′ l) n k′)
+  unfolding unless
+  tests-same n k k′ f =
       let z = sized (g .tables) (G .shape .lengths) in
       let z′ = sized (g′ .tables) (G′ .shape .lengths) in
       let e = B .queries l in
@@ -436,17 +450,53 @@ module _ (g g′ : Grid) (G : Good g) (G′ : Good g′) (B : Both g g′) (l : 
       (λ h₂. by-test (isFinished (q₀ .stage))
       (λ h₃. by-test (leb (3 * q₀ .hits) n)
       (λ h₄. by-test (leb (q₀ .hits) 256)
-      (λ h₅. rw (z, z′, h₁, e, h₂, h₃, h₄, h₅) (record {
-        number = refl;
-        steps = refl;
-        part = ap (λ (x : Hits). entriesFrom x (256 * l) (q₀ .hits)) hits-same;
-        both = replaced (ltb-true l 4 h₁) (not-idle (q₀ .stage) h₂) (idled q₀) (restamped (idled q₀) s₁) refl refl
-            (g .tables) (g′ .tables) (B .tables);
-      }))
+      (λ h₅. rw (z, z′, h₁, e, h₂, h₃, h₄, h₅) (f (ltb-true l 4 h₁) (not-idle (q₀ .stage) h₂)))
       (λ h₅. rw (z, z′, h₁, e, h₂, h₃, h₄, h₅) (refused-both 12)))
       (λ h₄. rw (z, z′, h₁, e, h₂, h₃, h₄) (refused-both 11)))
       (λ h₃. rw (z, z′, h₁, e, h₂, h₃) (refused-both 10))))
       (λ h₁. rw (z, z′, h₁) (refused-both 1))
+
+  read-same : (n : ℕ) → GoesC (readQuery (g .tables) qs l n) (readQuery (g′ .tables) qs′ l n)
+  unfolding readQuery after
+  read-same n = tests-same n _ _ (λ l< busy. rw (B .queries l) (record {
+    number = refl;
+    steps = refl;
+    part = ap (λ (x : Hits). entriesFrom x (256 * l) (q₀ .hits)) hits-same;
+    both = B;
+  }))
+
+  taken-same : (n : ℕ) → l < 4 → q₀ .stage ≢ Idle → GoesC (answered 0 (g .tables) (takenOut (g .tables) qs l n))
+      (answered 0 (g′ .tables) (takenOut (g′ .tables) qs′ l n))
+  unfolding after
+  taken-same n l< busy = rw (B .queries l) (record {
+    number = refl;
+    steps = refl;
+    part = ap (λ (x : Hits). entriesFrom x (256 * l) (q₀ .hits)) hits-same;
+    both = replaced l< busy (idled q₀) (restamped (idled q₀) s₁) refl refl (g .tables) (g′ .tables) (B .tables);
+  })
+
+  collect-same : (n : ℕ) → GoesC (collectQuery (g .tables) qs l n) (collectQuery (g′ .tables) qs′ l n)
+  collect-same n = rw (collect-as-before (g .tables) qs l n, collect-as-before (g′ .tables) qs′ l n)
+      (tests-same n _ _ (taken-same n))
+
+  clear-same : SameQ (g .updaters) (g′ .updaters) (after (g .tables) qs (clearQuery (g .tables) qs l))
+      (after (g′ .tables) qs′ (clearQuery (g′ .tables) qs′ l))
+  unfolding clearQuery unless after
+  clear-same =
+      let z = sized (g .tables) (G .shape .lengths) in
+      let z′ = sized (g′ .tables) (G′ .shape .lengths) in
+      let e = B .queries l in
+      by-test (ltb l 4)
+      (λ h. by-test (isIdleQuery (q₀ .stage))
+      (λ i. rw (z, z′, h, e, i) (away 3))
+      (λ i. by-test (isFinished (q₀ .stage))
+      (λ f. rw (z, z′, h, e, i, f) (record {
+        number = refl;
+        both = replaced (ltb-true l 4 h) (not-idle (q₀ .stage) i) (idled q₀) (restamped (idled q₀) s₁) refl refl
+            (g .tables) (g′ .tables) (B .tables);
+      }))
+      (λ f. rw (z, z′, h, e, i, f) (away 10))))
+      (λ h. rw (z, z′, h) (away 1))
 
 -- ---- a rewind
 
@@ -552,4 +602,7 @@ module _ (g g′ : Grid) (G : Good g) (G′ : Good g′) (B : Both g g′) where
       (call-good (stepQuery l) g′ G′ .0) in (answer-same (S .number) refl refl, S .both)
   lock-step (collect l m) n = let S = collect-same g g′ G G′ B l m in
       (answer-same (S .number) (S .steps) (S .part), S .both)
+  lock-step (read l m) n = let S = read-same g g′ G G′ B l m in
+      (answer-same (S .number) (S .steps) (S .part), S .both)
+  lock-step (clear l) n = let S = clear-same g g′ G G′ B l in (answer-same (S .number) refl refl, S .both)
   lock-step rewind n = rewind-same g g′ G G′ B

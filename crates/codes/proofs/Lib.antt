@@ -1,3 +1,4 @@
 pub mod Updaters
 pub mod Queries
+pub mod Rest
 mod Stores

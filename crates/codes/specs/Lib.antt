@@ -1,2 +1,3 @@
 pub mod Updaters
 pub mod Queries
+pub mod Rest

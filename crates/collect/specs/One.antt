@@ -1,10 +1,10 @@
--- Collection from one lane (document 01): what `collectQuery` and `collectInto` do with the lane that they name.
--- That the collection among all lanes is this, in that lane, is proofs/Lane.antt.
+-- Reading and clearing of one lane (document 02, request b): what `readQuery`, `readInto` and `clearQuery` do with the lane that they name.
+-- That reading and clearing among all lanes are these, in that lane, is proofs/Lane.antt.
 use mathlib.Core.Bool.{not}
 use mathlib.Core.List.{List, []}
 use Prim.Native.Nat.{ℕ, _*_}
 use lib.Dec.{ltb, leb}
-use lib.ListN.{length, set}
+use lib.ListN.{length}
 use Rattle.base.specs.Numbers.{DONE, NO-SUCH-LANE, LANE-IDLE, QUERY-UNFINISHED, SHORT-OUTPUT, CORRUPT}
 use Rattle.query.specs.declared.Query.{Query}
 use Rattle.tables.specs.Tables.{Tables, rightLengths}
@@ -13,45 +13,52 @@ use Rattle.queries.specs.Query.{isIdle, isFinished}
 use Rattle.collect.specs.Collect.{entriesFrom, idled}
 use Rattle.collect.specs.Filling.{Filling, fillingOf, over}
 
--- the query afterwards, and what is handed back
+-- what is handed back
 pub record HandedOne : Type 0 where
-  pub query : Query
   pub steps : ℕ
   pub part : List ℕ
 
-abbrev pub handedOneOf : Query → ℕ → List ℕ → HandedOne
-handedOneOf q k p = record { query = q; steps = k; part = p }
+abbrev pub handedOneOf : ℕ → List ℕ → HandedOne
+handedOneOf k p = record { steps = k; part = p }
 
--- Collect from lane l, where the query q is, into a list of n numbers.
-unfoldable pub collectOne : Tables → ℕ → Query → ℕ → Result HandedOne
-collectOne t l q n =
+-- Read from lane l, where the query q is, into a list of n numbers. The query is not among what is afterwards: it stays as it is.
+unfoldable pub readOne : Tables → ℕ → Query → ℕ → Result HandedOne
+readOne t l q n =
     unless (rightLengths t) CORRUPT
     (unless (ltb l 4) NO-SUCH-LANE
     (unless (not (isIdle (q .stage))) LANE-IDLE
     (unless (isFinished (q .stage)) QUERY-UNFINISHED
     (unless (leb (3 * q .hits) n) SHORT-OUTPUT
     (unless (leb (q .hits) 256) CORRUPT
-    (answered DONE t (handedOneOf (idled q) (q .steps) (entriesFrom (t .hits) (256 * l) (q .hits)))))))))
+    (answered DONE t (handedOneOf (q .steps) (entriesFrom (t .hits) (256 * l) (q .hits)))))))))
 
--- the number, the tables and the query afterwards, the steps, how many numbers are filled, and the lent list afterwards
+-- Clear lane l, where the query q is.
+unfoldable pub clearOne : Tables → ℕ → Query → Result Query
+clearOne t l q =
+    unless (rightLengths t) CORRUPT
+    (unless (ltb l 4) NO-SUCH-LANE
+    (unless (not (isIdle (q .stage))) LANE-IDLE
+    (unless (isFinished (q .stage)) QUERY-UNFINISHED
+    (answered DONE t (idled q)))))
+
+-- the number, the tables afterwards, the steps, how many numbers are filled, and the lent list afterwards
 pub record FillingOne : Type 0 where
   pub number : ℕ
   pub tables : Tables
-  pub query : Query
   pub steps : ℕ
   pub filled : ℕ
   pub list : List ℕ
 
-abbrev pub fillingOneOf : ℕ → Tables → Query → ℕ → ℕ → List ℕ → FillingOne
-fillingOneOf n t q k f l = record { number = n; tables = t; query = q; steps = k; filled = f; list = l }
+abbrev pub fillingOneOf : ℕ → Tables → ℕ → ℕ → List ℕ → FillingOne
+fillingOneOf n t k f l = record { number = n; tables = t; steps = k; filled = f; list = l }
 
 abbrev pub writtenOne : After HandedOne → List ℕ → FillingOne
-writtenOne a out = fillingOneOf (a .number) (a .tables) (a .lanes .query) (a .lanes .steps) (length (a .lanes .part)) (over (a .lanes .part) out)
+writtenOne a out = fillingOneOf (a .number) (a .tables) (a .lanes .steps) (length (a .lanes .part)) (over (a .lanes .part) out)
 
--- COLLECTION from lane l into the list out, with everything afterwards.
-unfoldable pub collectOneInto : Tables → ℕ → Query → List ℕ → FillingOne
-collectOneInto t l q out = writtenOne (after t (handedOneOf q 0 []) (collectOne t l q (length out))) out
+-- READING from lane l into the list out, with everything afterwards.
+unfoldable pub readOneInto : Tables → ℕ → Query → List ℕ → FillingOne
+readOneInto t l q out = writtenOne (after t (handedOneOf 0 []) (readOne t l q (length out))) out
 
--- what a collection from lane l by itself comes to, put among the lanes
-abbrev pub placedFilling : List Query → ℕ → FillingOne → Filling
-placedFilling qs l f = fillingOf (f .number) (f .tables) (set qs l (f .query)) (f .steps) (f .filled) (f .list)
+-- what a reading from one lane comes to, with the lanes beside it
+abbrev pub besideLanes : List Query → FillingOne → Filling
+besideLanes qs f = fillingOf (f .number) (f .tables) qs (f .steps) (f .filled) (f .list)

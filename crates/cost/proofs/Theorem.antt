@@ -11,7 +11,7 @@ use Rattle.base.specs.Outcome.{pick}
 use Rattle.base.specs.Table.{at}
 use Rattle.base.proofs.Table.{by-test}
 use Rattle.calls.specs.Call.{acceptedNumber}
-use Rattle.grid.specs.Run.{Grid, Call, startUpdate, stepUpdate, startQuery, stepQuery, collect, rewind, call, run, emptyGrid}
+use Rattle.grid.specs.Run.{Grid, Call, startUpdate, stepUpdate, startQuery, stepQuery, collect, read, clear, rewind, call, run, emptyGrid}
 use Rattle.runs.specs.Rest.{AtRest}
 use Rattle.runs.specs.Sweeps.{query}
 use Rattle.runs.proofs.Every.{Good}
@@ -19,7 +19,7 @@ use Rattle.runs.proofs.View.{view}
 use Rattle.cost.specs.Account.{Event, eventOf, settled, history, deed, deedOf, accepted, onlyIf, tally, Sweep, Bounded, AccountedOf, Accounted, AccountedFrom}
 use Rattle.cost.proofs.Live.{live-bounded}
 use Rattle.cost.proofs.Claims.{Claim, no-claim}
-use Rattle.cost.proofs.Collected.{keep-collect}
+use Rattle.cost.proofs.Collected.{keep-collect, keep-read, keep-clear}
 use Rattle.cost.proofs.Queries.{keep-query-start, keep-query-step}
 use Rattle.cost.proofs.Rel.{Fits, All, Rel, all-at}
 use Rattle.cost.proofs.Rewound.{keep-rewind}
@@ -43,6 +43,8 @@ keep (stepUpdate l) past g R = (keep-update-step past g R l, let w = no-steps (s
 keep (startQuery l u) past g R = keep-query-start past g R l u
 keep (stepQuery l) past g R = keep-query-step past g R l
 keep (collect l n) past g R = keep-collect past g R l n
+keep (read l n) past g R = keep-read past g R l n
+keep (clear l) past g R = keep-clear past g R l
 keep rewind past g R = (keep-rewind past g R, let w = no-steps rewind g (λ n. refl) (λ n. refl) in no-claim _ past (w .0) (w .1))
 
 -- every event of a list, with what came before it

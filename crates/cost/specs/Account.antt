@@ -16,7 +16,7 @@ use Rattle.layout.specs.declared.question.Question.{Question}
 use Rattle.cells.specs.Walk.{chainOf, tuplesIn}
 use Rattle.calls.specs.Call.{acceptedNumber}
 use Rattle.base.specs.Sums.{bit, countBelow}
-use Rattle.grid.specs.Run.{Grid, Call, startUpdate, stepUpdate, startQuery, stepQuery, collect, rewind, Answer, answerOf, call, emptyGrid}
+use Rattle.grid.specs.Run.{Grid, Call, startUpdate, stepUpdate, startQuery, stepQuery, collect, read, clear, rewind, Answer, answerOf, call, emptyGrid}
 
 -- ---- WHAT HAPPENED
 -- the tables of cells, locks and buckets: first bucket and lock of each cell, count and next bucket of each bucket
@@ -52,7 +52,7 @@ unfoldable pub history : List Call → Grid → List Event → List Event
 history [] g past = past
 history (c ∷ cs) g past = history cs (call c g .1) (eventOf c g ∷ past)
 
--- What an event comes to, if it does: an update begins (lane, object) or ends (lane); a query is asked (lane, question) or goes a step (lane, number), blocked ones too; a list is collected (lane).
+-- What an event comes to, if it does: an update begins (lane, object) or ends (lane); a query is asked (lane, question) or goes a step (lane, number), blocked ones too; a list is handed back (lane), by a reading or a collection.
 pub record Deed : Type 0 where
   pub begins : Option (ℕ × ℕ)
   pub ends : Option ℕ
@@ -75,6 +75,8 @@ accepted (stepUpdate l) n = deedOf none (pick (eqb n FINISHED) (some l) none) no
 accepted (startQuery l u) n = deedOf none none (some (l, u)) none none
 accepted (stepQuery l) n = deedOf none none none (some (l, n)) none
 accepted (collect l m) n = deedOf none none none none (some l)
+accepted (read l m) n = deedOf none none none none (some l)
+accepted (clear l) n = deedOf none none none none none
 accepted rewind n = deedOf none none none none none
 
 -- f of what is there, or else x
@@ -225,7 +227,7 @@ pub record StepFits (n : ℕ) (s : Seen) (t : Tally) : Type 0 where
   pub answer : n ≡ stepOf s t .0
   pub blocked : (n ≡ BLOCKED → AtLocked s t) × (AtLocked s t → n ≡ BLOCKED)
 
--- 2. An accepted collection is from a query that has finished, the last one of its lane. It hands back the tally's count, which is the number of the query's accepted
+-- 2. An accepted reading, and so an accepted collection, is from a query that has finished, the last one of its lane. It hands back the tally's count, which is the number of the query's accepted
 -- steps that were not blocked; and it is K and, for each of its cells, the buckets and tuples found at the step that entered it.
 pub record Counted (l n : ℕ) (past : List Event) : Type 0 where
   pub tally : n ≡ tally past l .count

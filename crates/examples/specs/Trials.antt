@@ -35,7 +35,7 @@ use Rattle.calls.specs.Call.{after, unless, stepped}
 use Rattle.updates.specs.Update.{updateStart, updateStep, started, hasRoom, idleUpdater, idleUpdaters}
 use Rattle.queries.specs.Scans.{scanOn}
 use Rattle.queries.specs.Query.{queryStart, queryStep, idleQueries, isFinished, isIdle as isIdleQuery}
-use Rattle.collect.specs.Collect.{collectQuery, entriesFrom}
+use Rattle.collect.specs.Collect.{readQuery, clearQuery, cleared, thenClear, collectQuery, entriesFrom}
 use Rattle.grid.specs.Run.{Grid, emptyGrid, Call, startUpdate, stepUpdate, startQuery, stepQuery, collect, Answer, call, run, answers}
 use Rattle.base.specs.Table.{upd}
 use Rattle.cells.specs.Walk.{chainOf, bucketsFrom, inFront, tuplesIn}
@@ -289,7 +289,7 @@ unfolding gives says cellsTouched stages stageNo upd during duringBy account acc
     sumBelow bit corners cornersOn ordered onGrid cellOf pick hash numbersOf sweeps collected steps call run answers
     emptyGrid emptyTables inside visited next addReader takeReader leaveFor lookFrom enlist note counted afterCell
     enterFree enterStep leaveLast leaveStep comparable consider readStep scanOn queryStart queryStep idleQueries
-    isFinished isIdleQuery collectQuery entriesFrom seen read seenBy idleUpdaters after updateStart updateStep
+    isFinished isIdleQuery readQuery clearQuery cleared thenClear collectQuery entriesFrom seen read seenBy idleUpdaters after updateStart updateStep
     stepped started stageOn lift unless isIdle hasRoom rightLengths rightCells rightTuples rightIndex rightHits
     need await andThen atEntry attempt draw look takeLock release search probe after# known enter enterAt empty
     members height withHeight pool-take pool-give fresh numbersFrom encode decode readPlace putPlace erasePlace

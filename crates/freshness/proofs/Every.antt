@@ -6,7 +6,8 @@ use Rattle.stage.specs.declared.Stage.the-variants.{Idle}
 use Rattle.query.specs.declared.Scan.the-variants.{Idle as IdleQuery}
 use Rattle.updates.specs.Update.{idleUpdater, idleUpdaters}
 use Rattle.queries.specs.Query.{idleQuery, idleQueries}
-use Rattle.grid.specs.Run.{Grid, Call, startUpdate, stepUpdate, startQuery, stepQuery, collect, rewind, call, run, answers, emptyGrid}
+use Rattle.grid.specs.Run.{Grid, Call, startUpdate, stepUpdate, startQuery, stepQuery, collect, read, clear, rewind, call, run, answers, emptyGrid}
+use Rattle.grid.proofs.Both.{read-stays}
 use Rattle.runs.specs.Sweeps.{query}
 use Rattle.runs.proofs.Empty.{all-same, empty-good, empty-unknown}
 use Rattle.runs.proofs.Runs.{call-good}
@@ -14,11 +15,12 @@ use Rattle.runs.proofs.View.{view}
 use Rattle.tuples.proofs.Fresh.{late}
 use Rattle.base.proofs.Table.{clash}
 use Rattle.freshness.specs.History.{Event, eventOf, recall, events, past, underWay, standing}
+use Rattle.freshness.proofs.CallKinds.{fresh-same}
 use Rattle.freshness.proofs.Fine.{Fresh, Fine}
 use Rattle.freshness.proofs.Past.{Valid}
 use Rattle.freshness.proofs.Queries.{query-fresh}
+use Rattle.freshness.proofs.Starting.{start-fresh, query-start-fresh, collect-fresh, clear-fresh}
 use Rattle.freshness.proofs.Rewound.{rewind-fresh}
-use Rattle.freshness.proofs.Starting.{start-fresh, query-start-fresh, collect-fresh}
 use Rattle.freshness.proofs.Stepping.{update-fresh}
 
 -- ---- the empty grid
@@ -60,6 +62,8 @@ call-fresh (stepUpdate l) g es F = update-fresh g (F .good) es (F .fresh) l
 call-fresh (startQuery q u) g es F = query-start-fresh g (F .good .shape) es (F .fresh) q u
 call-fresh (stepQuery q) g es F = query-fresh g (F .good) es (F .fresh) q
 call-fresh (collect q n) g es F = collect-fresh g (F .good) es (F .fresh) q n
+call-fresh (read q n) g es F = fresh-same es g (call (read q n) g .1) (read-stays q n g) (F .fresh)
+call-fresh (clear q) g es F = clear-fresh g (F .good) es (F .fresh) q
 call-fresh rewind g es F = rewind-fresh g es F
 
 pub call-fine : (c : Call) (g : Grid) (es : List Event) → Fine es g → Fine (recall (eventOf c (call c g .0 .number)) es) (call c g .1)

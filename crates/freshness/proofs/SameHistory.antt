@@ -19,7 +19,7 @@ use Rattle.base.proofs.Table.{upd-same, upd-other, at-or, by-test, clash}
 use Rattle.layout.specs.declared.question.Question.{Question}
 use Rattle.calls.specs.Call.{after, unless, acceptedNumber}
 use Rattle.queries.specs.Query.{isIdle as isIdleQuery, isFinished, queryStep}
-use Rattle.grid.specs.Run.{Grid, Call, startUpdate, stepUpdate, startQuery, stepQuery, collect, rewind, call, run, answers, emptyGrid}
+use Rattle.grid.specs.Run.{Grid, Call, startUpdate, stepUpdate, startQuery, stepQuery, collect, read, clear, rewind, call, run, answers, emptyGrid}
 use Rattle.base.specs.Spot.{Hit, hit, Mem, onTop, deeper}
 use Rattle.base.specs.Sums.{sumBelow, bit}
 use Rattle.tuples.proofs.Common.{sum-one}
@@ -331,6 +331,8 @@ module _ (g : Grid) (ds : List Entry) (es : List Event) (T : Tie ds es) where
       (λ z. rw z (refused-call c z))
   tie-call (stepQuery q) v = idle-call (stepQuery q) (λ n. (refl, refl, refl, refl))
   tie-call (collect q n) v = idle-call (collect q n) (λ n. (refl, refl, refl, refl))
+  tie-call (read q n) v = idle-call (read q n) (λ n. (refl, refl, refl, refl))
+  tie-call (clear q) v = idle-call (clear q) (λ n. (refl, refl, refl, refl))
   tie-call rewind v = idle-call rewind (λ n. (refl, refl, refl, refl))
 
 -- ---- every list of calls

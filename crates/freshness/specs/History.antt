@@ -12,7 +12,7 @@ use Rattle.base.specs.Numbers.{FINISHED}
 use Rattle.base.specs.Outcome.{pick}
 use Rattle.layout.specs.declared.question.Question.{Question}
 use Rattle.calls.specs.Call.{acceptedNumber}
-use Rattle.grid.specs.Run.{Call, startUpdate, stepUpdate, startQuery, stepQuery, collect, rewind, Answer, answers, emptyGrid}
+use Rattle.grid.specs.Run.{Call, startUpdate, stepUpdate, startQuery, stepQuery, collect, read, clear, rewind, Answer, answers, emptyGrid}
 use Rattle.base.specs.Spot.{Spot, Hit, hit}
 
 -- ---- events
@@ -37,6 +37,8 @@ eventOf (stepUpdate l) n = pick (eqb n FINISHED) (some (ends l)) none
 eventOf (startQuery q u) n = pick (refused n) none (some (asks q u))
 eventOf (stepQuery q) n = none
 eventOf (collect q m) n = none
+eventOf (read q m) n = none
+eventOf (clear q) n = none
 eventOf rewind n = none
 
 -- one event more, if there is one; the last stands first
@@ -138,19 +140,21 @@ placesBy s (r ∷ rs) = placesOf (r ∷ rs)
 unfoldable pub places : ℕ → ℕ → List Event → List Spot
 places q k es = placesBy (standing k es) (updates q k es)
 
--- ---- collections
+-- ---- clearings
 
--- an accepted collection from lane q
+-- an accepted clearing of lane q, by itself or in a collection
 unfoldable pub takes : ℕ → Call → ℕ → Bool
 takes q (startUpdate l k x y) n = false
 takes q (stepUpdate l) n = false
 takes q (startQuery j u) n = false
 takes q (stepQuery j) n = false
 takes q (collect j m) n = eqb j q && acceptedNumber n
+takes q (read j m) n = false
+takes q (clear j) n = eqb j q && acceptedNumber n
 takes q rewind n = false
 
 -- none of the calls, with their answers, is one
-unfoldable pub uncollected : ℕ → List Call → List Answer → Bool
-uncollected q [] ans = true
-uncollected q (c ∷ cs) [] = true
-uncollected q (c ∷ cs) (a ∷ ans) = not (takes q c (a .number)) && uncollected q cs ans
+unfoldable pub uncleared : ℕ → List Call → List Answer → Bool
+uncleared q [] ans = true
+uncleared q (c ∷ cs) [] = true
+uncleared q (c ∷ cs) (a ∷ ans) = not (takes q c (a .number)) && uncleared q cs ans

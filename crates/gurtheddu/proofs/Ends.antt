@@ -47,9 +47,3 @@ module _ {L : Type 0} (ns : List ℕ) (store : L → List ℕ) (r : Ran L) (k m 
   pub run-some : m ≢ 0 → codedRun ns store r ≡ ranOf k m t′ (store v)
   unfolding pick
   run-some z = ap (codedRun ns store) e ∙ rw (ne-eqb m 0 z)
-
--- what is left where the number is 0
-pub left-in : {L : Type 0} {w : L} {r : Result L} → Starting w r → (t : Tables) (u : L) → after t u r .number ≡ 0 → after t u r .lanes ≡ w
-unfolding after
-left-in (away i) t u z = absurd (i z)
-left-in let-in t u z = refl

@@ -3,3 +3,4 @@ mod OfUpdates
 mod OfQueries
 mod Fresh
 pub mod Runs
+mod Wound

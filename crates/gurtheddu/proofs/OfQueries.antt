@@ -22,11 +22,11 @@ use Rattle.queries.specs.Query.{isIdle, begun}
 use Rattle.queries.specs.One.{startOne}
 use Rattle.query_run.specs.Run.{runOne}
 use Rattle.collect.specs.Collect.{idled, entriesFrom}
-use Rattle.collect.specs.One.{HandedOne, handedOneOf, collectOne, FillingOne, fillingOneOf, collectOneInto}
+use Rattle.collect.specs.One.{HandedOne, handedOneOf, readOne, clearOne, FillingOne, fillingOneOf, readOneInto}
 use Rattle.collect.proofs.Written.{entries-length}
 use Rattle.codes.specs.Queries.{scanIn, queryIn, withQuery}
-use Rattle.gurtheddu.specs.Coded.{coded, codedRun, codedFilling, handedBack, startSweep, runSweep, collectFrom}
-use Rattle.gurtheddu.proofs.Ends.{Starting, away, let-in, past, start-away, start-done, left-in, run-nothing, run-some}
+use Rattle.gurtheddu.specs.Coded.{coded, codedRun, startSweep, runSweep, readFrom, clearLane}
+use Rattle.gurtheddu.proofs.Ends.{Starting, away, let-in, past, start-away, start-done, run-nothing, run-some}
 use Rattle.codes.proofs.Queries.{lane-seen}
 
 -- ---- a start
@@ -108,73 +108,73 @@ module _ (n l : ℕ) (t : Tables) (ns : List ℕ) where
         run-moved z ns′ h =
             onward-run ∙ run-some ns (withQuery ns l) (runOne n l t (queryIn ns l)) k m t′ v ends z ∙ ap (ranOf k m t′) (sym h)
 
--- ---- a collection
+-- ---- a reading
 
--- what is handed back of the query q of lane l
-abbrev handed : Tables → ℕ → Query → HandedOne
-handed t l q = handedOneOf (idled q) (q .steps) (entriesFrom (t .hits) (256 * l) (q .hits))
-
-collecting : (t : Tables) (l : ℕ) (q : Query) (n : ℕ) → Starting (handed t l q) (collectOne t l q n)
-unfolding collectOne
-collecting t l q n =
-    past _ 12 _ (λ z. omega arith) (past _ 1 _ (λ z. omega arith) (past _ 3 _ (λ z. omega arith) (past _ 10 _ (λ z. omega arith)
-    (past _ 11 _ (λ z. omega arith) (past _ 12 _ (λ z. omega arith) let-in)))))
-
--- an accepted one idles the query
-collected : (t : Tables) (l : ℕ) (q : Query) (out : List ℕ) → collectOneInto t l q out .number ≡ 0 → collectOneInto t l q out .query ≡ idled q
-unfolding collectOneInto
-collected t l q out z = ap (λ (h : HandedOne). h .query) (left-in (collecting t l q (length out)) t (handedOneOf q 0 []) z)
-
--- and at most 768 numbers are filled
-few : (t : Tables) (q : Query) (b : Bool) (n : ℕ) (k : Result HandedOne)
-    → (b ≡ true → length (after t (handedOneOf q 0 []) k .lanes .part) ≤ 768) → length (after t (handedOneOf q 0 []) (unless b n k) .lanes .part) ≤ 768
+-- at most 768 numbers are filled
+few : (t : Tables) (b : Bool) (n : ℕ) (k : Result HandedOne)
+    → (b ≡ true → length (after t (handedOneOf 0 []) k .lanes .part) ≤ 768) → length (after t (handedOneOf 0 []) (unless b n k) .lanes .part) ≤ 768
 unfolding unless after
-few t q true n k h = h refl
-few t q false n k h = omega arith
+few t true n k h = h refl
+few t false n k h = omega arith
 
 few-entries : (t : Tables) (l : ℕ) (q : Query) → leb (q .hits) 256 ≡ true
-    → length (after t (handedOneOf q 0 []) (answered 0 t (handed t l q)) .lanes .part) ≤ 768
+    → length (after t (handedOneOf 0 []) (answered 0 t (handedOneOf (q .steps) (entriesFrom (t .hits) (256 * l) (q .hits)))) .lanes .part) ≤ 768
 unfolding after
 few-entries t l q h = omega (arith, entries-length (t .hits) (256 * l) (q .hits), leb-true (q .hits) 256 h)
 
-pub few-filled : (t : Tables) (l : ℕ) (q : Query) (out : List ℕ) → collectOneInto t l q out .filled ≤ 768
-unfolding collectOneInto collectOne
+pub few-filled : (t : Tables) (l : ℕ) (q : Query) (out : List ℕ) → readOneInto t l q out .filled ≤ 768
+unfolding readOneInto readOne
 few-filled t l q out =
-    few t q _ 12 _ (λ _. few t q _ 1 _ (λ _. few t q _ 3 _ (λ _. few t q _ 10 _ (λ _. few t q _ 11 _ (λ _.
-    few t q (leb (q .hits) 256) 12 _ (few-entries t l q))))))
+    few t _ 12 _ (λ _. few t _ 1 _ (λ _. few t _ 3 _ (λ _. few t _ 10 _ (λ _. few t _ 11 _ (λ _.
+    few t (leb (q .hits) 256) 12 _ (few-entries t l q))))))
 
--- the same from the answer of `collect_one`
-pub filled-fits : (t : Tables) (l : ℕ) (q : Query) (out : List ℕ) (n : ℕ) (t′ : Tables) (v : Query) (k f : ℕ) (out′ : List ℕ)
-    → collectOneInto t l q out ≡ fillingOneOf n t′ v k f out′ → f ≤ 768
-filled-fits t l q out n t′ v k f out′ e = subst (λ (g : FillingOne). g .filled ≤ 768) e (few-filled t l q out)
+-- the same from the answer of `read_one`
+pub filled-fits : (t : Tables) (l : ℕ) (q : Query) (out : List ℕ) (n : ℕ) (t′ : Tables) (k f : ℕ) (out′ : List ℕ)
+    → readOneInto t l q out ≡ fillingOneOf n t′ k f out′ → f ≤ 768
+filled-fits t l q out n t′ k f out′ e = subst (λ (g : FillingOne). g .filled ≤ 768) e (few-filled t l q out)
 
 module _ (t : Tables) (ns : List ℕ) (l : ℕ) (out : List ℕ) where
-  pub collect-none : 4 ≤ l → collectFrom t ns l out ≡ handedBack 1 t ns 0 0 out
-  unfolding collectFrom pick
-  collect-none h = rw (le-ltb l 4 h)
+  pub read-none : 4 ≤ l → readFrom t ns l out ≡ fillingOneOf 1 t 0 0 out
+  unfolding readFrom pick
+  read-none h = rw (le-ltb l 4 h)
 
   module _ (l< : l < 4) where
-    pub collect-nameless : 3 < scanIn ns l → collectFrom t ns l out ≡ handedBack 12 t ns 0 0 out
-    unfolding collectFrom pick
-    collect-nameless h = rw (lt-ltb l 4 l<, lt-leb (scanIn ns l) 3 h)
+    pub read-nameless : 3 < scanIn ns l → readFrom t ns l out ≡ fillingOneOf 12 t 0 0 out
+    unfolding readFrom pick
+    read-nameless h = rw (lt-ltb l 4 l<, lt-leb (scanIn ns l) 3 h)
 
-    module _ (g : scanIn ns l ≤ 3) (q : Query) (eq : q ≡ queryIn ns l) (n : ℕ) (t′ : Tables) (v : Query) (k f : ℕ) (out′ : List ℕ)
-        (e : collectOneInto t l q out ≡ fillingOneOf n t′ v k f out′) where
-      onward-filling : collectFrom t ns l out ≡ codedFilling ns l (fillingOneOf n t′ v k f out′)
-      unfolding collectFrom pick
-      onward-filling = rw (lt-ltb l 4 l<, le-leb (scanIn ns l) 3 g) (ap (codedFilling ns l) (ap (λ (p : Query). collectOneInto t l p out) (sym eq) ∙ e))
+    -- what the lane's query hands back
+    pub read-off : scanIn ns l ≤ 3 → (q : Query) → q ≡ queryIn ns l → {a : FillingOne} → readOneInto t l q out ≡ a → readFrom t ns l out ≡ a
+    unfolding readFrom pick
+    read-off g q eq e = rw (lt-ltb l 4 l<, le-leb (scanIn ns l) 3 g) (ap (λ (p : Query). readOneInto t l p out) (sym eq) ∙ e)
 
-      over-query : n ≡ 0 → v ≡ idled (queryIn ns l)
-      over-query z =
-          sym (ap (λ (g : FillingOne). g .query) e) ∙ collected t l q out (ap (λ (g : FillingOne). g .number) e ∙ z) ∙ ap idled eq
+-- ---- a clearing
 
-      pub collect-refused : n ≢ 0 → collectFrom t ns l out ≡ handedBack n t′ ns k f out′
-      unfolding pick
-      collect-refused z = onward-filling ∙ rw (ne-eqb n 0 z)
+clearing : (t : Tables) (l : ℕ) (q : Query) → Starting (idled q) (clearOne t l q)
+unfolding clearOne
+clearing t l q =
+    past _ 12 _ (λ z. omega arith) (past _ 1 _ (λ z. omega arith) (past _ 3 _ (λ z. omega arith) (past _ 10 _ (λ z. omega arith) let-in)))
+
+module _ (t : Tables) (ns : List ℕ) (l : ℕ) where
+  pub clear-none : 4 ≤ l → after t ns (clearLane t ns l) ≡ afterOf 1 t ns
+  unfolding clearLane unless after
+  clear-none h = rw (le-ltb l 4 h)
+
+  module _ (l< : l < 4) where
+    pub clear-nameless : 3 < scanIn ns l → after t ns (clearLane t ns l) ≡ afterOf 12 t ns
+    unfolding clearLane unless after
+    clear-nameless h = rw (lt-ltb l 4 l<, lt-leb (scanIn ns l) 3 h)
+
+    module _ (g : scanIn ns l ≤ 3) (q : Query) (eq : q ≡ queryIn ns l) (n : ℕ) (t′ : Tables) (v : Query) (e : after t q (clearOne t l q) ≡ afterOf n t′ v) where
+      onward-clear : clearLane t ns l ≡ coded (withQuery ns l) (clearOne t l q)
+      unfolding clearLane unless
+      onward-clear = rw (lt-ltb l 4 l<, le-leb (scanIn ns l) 3 g, eq)
+
+      pub clear-refused : n ≢ 0 → after t ns (clearLane t ns l) ≡ afterOf n t′ ns
+      clear-refused z = ap (after t ns) onward-clear ∙ start-away (idled q) (withQuery ns l) t q ns (clearOne t l q) (clearing t l q) n t′ v e z
 
       -- the lane is idled
-      pub collect-done : n ≡ 0 → (ns′ : List ℕ) → ns′ ≡ withQuery ns l (idled (queryIn ns l)) → collectFrom t ns l out ≡ handedBack 0 t′ ns′ k f out′
-      unfolding pick
-      collect-done z ns′ h =
-          let o : v ≡ idled (queryIn ns l) = over-query z in
-          onward-filling ∙ rw z (λ j. handedBack 0 t′ (withQuery ns l (o j)) k f out′) ∙ ap (λ (ms : List ℕ). handedBack 0 t′ ms k f out′) (sym h)
+      pub clear-done : n ≡ 0 → (ns′ : List ℕ) → ns′ ≡ withQuery ns l (idled (queryIn ns l)) → after t ns (clearLane t ns l) ≡ afterOf 0 t′ ns′
+      clear-done z ns′ h =
+          let d = start-done (idled q) (withQuery ns l) t q ns (clearOne t l q) (clearing t l q) n t′ v e z in
+          ap (after t ns) onward-clear ∙ d .0 ∙ ap (λ (p : Query). afterOf 0 t′ (withQuery ns l (idled p))) eq ∙ ap (afterOf 0 t′) (sym h)

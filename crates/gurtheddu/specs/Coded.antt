@@ -15,9 +15,11 @@ use Rattle.updates.specs.One.{startOne}
 use Rattle.update_run.specs.Run.{runOne}
 use Rattle.queries.specs.One.{startOne as startQuery}
 use Rattle.query_run.specs.Run.{runOne as runQuery}
-use Rattle.collect.specs.One.{FillingOne, collectOneInto}
+use Rattle.collect.specs.One.{FillingOne, fillingOneOf, readOneInto, clearOne}
 use Rattle.codes.specs.Updaters.{namesStage, updaterIn, withUpdater}
 use Rattle.codes.specs.Queries.{namesScan, queryIn, withQuery}
+use Rattle.codes.specs.Rest.{stagesTo, scansTo, updatersIn, queriesIn}
+use Rattle.rewind.specs.Rewind.{rewindTables}
 
 -- what a call in one lane comes to, where `store` puts the lane's numbers in their place
 unfoldable pub coded : {L : Type 0} → (L → List ℕ) → Result L → Result (List ℕ)
@@ -58,29 +60,19 @@ runSweep n l t ns =
     (pick (namesScan ns l) (codedRun ns (withQuery ns l) (runQuery n l t (queryIn ns l))) (ranOf CORRUPT 0 t ns))
     (ranOf NO-SUCH-LANE 0 t ns))
 
--- what a collection comes to: the number, the tables and the lanes afterwards, the steps, how many numbers are filled, and the lent list afterwards
-pub record HandedBack : Type 0 where
-  pub number : ℕ
-  pub tables : Tables
-  pub lanes : List ℕ
-  pub steps : ℕ
-  pub filled : ℕ
-  pub list : List ℕ
-
-abbrev pub handedBack : ℕ → Tables → List ℕ → ℕ → ℕ → List ℕ → HandedBack
-handedBack n t ns k f l = record { number = n; tables = t; lanes = ns; steps = k; filled = f; list = l }
-
--- of a collection from one lane
-abbrev pub codedFilling : List ℕ → ℕ → FillingOne → HandedBack
-codedFilling ns l f =
-    handedBack (f .number) (f .tables) (pick (eqb (f .number) 0) (withQuery ns l (f .query)) ns) (f .steps) (f .filled) (f .list)
-
--- A COLLECTION from lane l into the list out.
-unfoldable pub collectFrom : Tables → List ℕ → ℕ → List ℕ → HandedBack
-collectFrom t ns l out =
+-- A READING from lane l into the list out: the lanes' numbers are not among what is afterwards, they stay as they are.
+unfoldable pub readFrom : Tables → List ℕ → ℕ → List ℕ → FillingOne
+readFrom t ns l out =
     pick (ltb l 4)
-    (pick (namesScan ns l) (codedFilling ns l (collectOneInto t l (queryIn ns l) out)) (handedBack 12 t ns 0 0 out))
-    (handedBack 1 t ns 0 0 out)
+    (pick (namesScan ns l) (readOneInto t l (queryIn ns l) out) (fillingOneOf CORRUPT t 0 0 out))
+    (fillingOneOf NO-SUCH-LANE t 0 0 out)
+
+-- A CLEARING of lane l.
+unfoldable pub clearLane : Tables → List ℕ → ℕ → Result (List ℕ)
+clearLane t ns l =
+    unless (ltb l 4) NO-SUCH-LANE
+    (unless (namesScan ns l) CORRUPT
+    (coded (withQuery ns l) (clearOne t l (queryIn ns l))))
 
 -- the numbers of both kinds of lanes
 pub record Lanes : Type 0 where
@@ -95,3 +87,10 @@ unfoldable pub resetDeck : Tables → Lanes → Result Lanes
 resetDeck t ls =
     unless (rightLengths t) CORRUPT
     (answered DONE emptyTables (lanesOf (replicate (length (ls .updaters)) 0) (replicate (length (ls .queries)) 0)))
+
+-- A REWIND: 12 where a lane's number names no stage; else that of the lanes which the numbers say. The lanes' numbers stay as they are.
+unfoldable pub rewindDeck : Tables → List ℕ → List ℕ → Result (Unit {0})
+rewindDeck t us qs =
+    unless (stagesTo us 14) CORRUPT
+    (unless (scansTo qs 3) CORRUPT
+    (rewindTables t (updatersIn us) (queriesIn qs)))

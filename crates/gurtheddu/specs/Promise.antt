@@ -8,7 +8,8 @@ use Rattle.layout.specs.declared.question.Question.{Question}
 use Rattle.tables.specs.Tables.{Tables}
 use Rattle.calls.specs.Call.{after, afterOf}
 use Rattle.calls.specs.Run.{ranOf}
-use Rattle.gurtheddu.specs.Coded.{startUpdate, runUpdate, startSweep, runSweep, collectFrom, handedBack, resetDeck, lanesOf}
+use Rattle.collect.specs.One.{fillingOneOf}
+use Rattle.gurtheddu.specs.Coded.{startUpdate, runUpdate, startSweep, runSweep, readFrom, clearLane, resetDeck, lanesOf, rewindDeck}
 
 -- A START of an update of object k, to stand at (x, y), in lane l, gives n.
 abbrev pub StartsUpdate : Lent (List ℕ) → ℕ → ℕ → ℕ → ℕ → ℕ → Tables → Tables → Type 0
@@ -26,12 +27,19 @@ StartsSweep ns l u n t t′ = after t (old ns) (startSweep t (old ns) l u) ≡ a
 abbrev pub RunsSweep : Lent (List ℕ) → ℕ → ℕ → Lent ℕ → ℕ → Tables → Tables → Type 0
 RunsSweep ns l b made n t t′ = runSweep b l t (old ns) ≡ ranOf n (new made) t′ (new ns)
 
--- A COLLECTION from lane l into a list that is lent gives n.
-abbrev pub CollectsFrom : Lent (List ℕ) → ℕ → Lent (List ℕ) → Lent ℕ → Lent ℕ → ℕ → Tables → Tables → Type 0
-CollectsFrom ns l out steps filled n t t′ =
-    collectFrom t (old ns) l (old out) ≡ handedBack n t′ (new ns) (new steps) (new filled) (new out)
+-- A READING from lane l into a list that is lent gives n.
+abbrev pub ReadsFrom : Lent (List ℕ) → ℕ → Lent (List ℕ) → Lent ℕ → Lent ℕ → ℕ → Tables → Tables → Type 0
+ReadsFrom ns l out steps filled n t t′ = readFrom t (old ns) l (old out) ≡ fillingOneOf n t′ (new steps) (new filled) (new out)
+
+-- A CLEARING of lane l gives n.
+abbrev pub ClearsLane : Lent (List ℕ) → ℕ → ℕ → Tables → Tables → Type 0
+ClearsLane ns l n t t′ = after t (old ns) (clearLane t (old ns) l) ≡ afterOf n t′ (new ns)
 
 -- A RESET gives n.
 abbrev pub ResetsDeck : Lent (List ℕ) → Lent (List ℕ) → ℕ → Tables → Tables → Type 0
 ResetsDeck us qs n t t′ =
     after t (lanesOf (old us) (old qs)) (resetDeck t (lanesOf (old us) (old qs))) ≡ afterOf n t′ (lanesOf (new us) (new qs))
+
+-- A REWIND gives n.
+abbrev pub RewindsDeck : Lent (List ℕ) → Lent (List ℕ) → ℕ → Tables → Tables → Type 0
+RewindsDeck us qs n t t′ = after t tt (rewindDeck t (old us) (old qs)) ≡ afterOf n t′ tt

@@ -1,7 +1,7 @@
-// The calls of range queries (document 01: sweep start, sweep steps in a row, collection).
+// The calls of range queries (document 01: sweep start, sweep steps in a row; document 02, request b: reading the list, clearing the lane).
 ghost use Rattle.tables.specs.Promise.{OnGrid};
 ghost use Rattle.queries.specs.Query.{questionOf};
-ghost use Rattle.gurtheddu.specs.Promise.{StartsSweep, RunsSweep, CollectsFrom};
+ghost use Rattle.gurtheddu.specs.Promise.{StartsSweep, RunsSweep, ReadsFrom, ClearsLane};
 use base::CORRUPT;
 use base::DONE;
 use base::NO_SUCH_LANE;
@@ -14,7 +14,8 @@ use codes::query_lane::seen_query;
 use codes::query_lane::store_begun;
 use codes::query_lane::store_idle;
 use codes::query_lane::store_query;
-use collect::whole::collect_one;
+use collect::clear::clear_one;
+use collect::read::read_one;
 use layout::question::Question;
 use layout::question::first_cell;
 use queries::start::start_one;
@@ -90,10 +91,10 @@ pub extern "C" fn gurtheddu_query_run(
 }
 
 // Hands back the list of a finished query: three numbers for each entry over the front of the caller's list, how many numbers these are, and the steps
-// of the query; the lane is idled. Gives 0, or is refused with 1, 12 (the lane's number is none), 3, 10, 11 or 12 (the number of hits).
+// of the query. Nothing else changes. Gives 0, or is refused with 1, 12 (the lane's number is none), 3, 10, 11 or 12 (the number of hits).
 #[no_mangle]
-pub extern "C" fn gurtheddu_collect(
-    queries: &mut [u32; 44],
+pub extern "C" fn gurtheddu_read(
+    queries: &[u32; 44],
     lane: u32,
     out: &mut [u32],
     steps: &mut u32,
@@ -101,7 +102,7 @@ pub extern "C" fn gurtheddu_collect(
     words: &[u32; 13826],
     times: &[i32; 2048],
 ) -> u32
-    ensures { λ r. ⌜ OnGrid words times (CollectsFrom queries lane out steps filled r) ⌝ }
+    ensures { λ r. ⌜ OnGrid words times (ReadsFrom queries lane out steps filled r) ⌝ }
 {
     *steps = 0;
     *filled = 0;
@@ -113,11 +114,33 @@ pub extern "C" fn gurtheddu_collect(
         return 12;
     }
     let q = load_query(queries, at);
-    let done = collect_one(q, lane, out, words, times);
-    *steps = done.steps;
-    *filled = done.filled as u32;
-    if done.number != 0 {
-        return done.number;
+    let reading = read_one(q, lane, out, words, times);
+    *steps = reading.steps;
+    *filled = reading.filled as u32;
+    reading.number
+}
+
+// Idles the lane of a finished query. Gives 0, or is refused with 1, 12 (the lane's number is none), 3 or 10.
+#[no_mangle]
+pub extern "C" fn gurtheddu_clear(
+    queries: &mut [u32; 44],
+    lane: u32,
+    words: &[u32; 13826],
+    times: &[i32; 2048],
+) -> u32
+    ensures { λ r. ⌜ OnGrid words times (ClearsLane queries lane r) ⌝ }
+{
+    if lane >= QUERY_COUNT {
+        return 1;
+    }
+    let at = QUERY_NUMBERS * (lane as usize);
+    if queries[at + SCAN_AT] > LAST_SCAN {
+        return 12;
+    }
+    let q = load_query(queries, at);
+    let one = clear_one(q, lane, words, times);
+    if one.number != 0 {
+        return one.number;
     }
     store_idle(queries, at);
     0

@@ -1,9 +1,16 @@
-// The empty grid (document 01: a fresh deck).
+// The calls of a whole deck: the empty grid (document 01: a fresh deck), and winding the clock back (document 02, request a).
 ghost use Rattle.tables.specs.Promise.{OnGrid};
-ghost use Rattle.gurtheddu.specs.Promise.{ResetsDeck};
+ghost use Rattle.gurtheddu.specs.Promise.{ResetsDeck, RewindsDeck};
+use base::BUSY;
+use base::CORRUPT;
 use base::DONE;
+use codes::all_lanes::scans_to;
+use codes::all_lanes::stages_to;
+use codes::query_lane::LAST_SCAN;
+use codes::update_lane::LAST_STAGE;
 use grid::reset::reset;
 use queries::lanes::idle_queries;
+use rewind::whole::rewind;
 use tables::fill::fill_numbers;
 use updates::lanes::idle_updaters;
 
@@ -26,4 +33,31 @@ pub extern "C" fn gurtheddu_reset(
     fill_numbers(updaters, 0);
     fill_numbers(queries, 0);
     DONE
+}
+
+// Winds every stamp and the clock back. Gives 0, or is refused with 12 (a lane's number is none) or 30 (not at rest). The lanes stay as they are.
+#[no_mangle]
+pub extern "C" fn gurtheddu_rewind(
+    updaters: &[u32; 72],
+    queries: &[u32; 44],
+    words: &mut [u32; 13826],
+    times: &mut [i32; 2048],
+) -> u32
+    ensures { λ r. ⌜ OnGrid words times (RewindsDeck updaters queries r) ⌝ }
+{
+    if !stages_to(updaters, LAST_STAGE) {
+        return CORRUPT;
+    }
+    if !scans_to(queries, LAST_SCAN) {
+        return CORRUPT;
+    }
+    if !stages_to(updaters, 0) {
+        return BUSY;
+    }
+    if !scans_to(queries, 0) {
+        return BUSY;
+    }
+    let us = idle_updaters();
+    let qs = idle_queries();
+    rewind(us, qs, words, times)
 }

@@ -8,11 +8,14 @@ use Rattle.stage.specs.declared.Updater.{Updater}
 use Rattle.query.specs.declared.Query.{Query}
 use Rattle.script.specs.declared.line.UpdateLine.{UpdateLine}
 use Rattle.script.specs.declared.line.QueryLine.{QueryLine}
+use Rattle.script.specs.declared.line.ListLine.{ListLine}
 use Rattle.calls.specs.Call.{after, afterOf}
 use Rattle.updates.specs.declared.lanes.Stepped.{Stepped}
 use Rattle.queries.specs.declared.lanes.Swept.{Swept}
+use Rattle.collect.specs.Filling.{fillingOf}
+use Rattle.collect.specs.declared.whole.Collected.{Collected}
 use Rattle.grid.specs.Run.{gridOf}
-use Rattle.lines.specs.Line.{updateBy, queryBy, lineStep, linedOf}
+use Rattle.lines.specs.Line.{updateBy, queryBy, listBy, lineStep, linedOf}
 use Rattle.lines.specs.declared.step.LineStep.{LineStep}
 
 -- A LINE ABOUT AN UPDATE is answered: number, tables and updaters are those of its call.
@@ -22,6 +25,11 @@ AnswersUpdate u us r t t′ = after t us (updateBy u t us) ≡ afterOf (r .numbe
 -- A LINE ABOUT A QUERY is answered: number, tables and queries are those of its call.
 abbrev pub AnswersQuery : QueryLine → List Query → Swept → Tables → Tables → Type 0
 AnswersQuery q qs r t t′ = after t qs (queryBy q t qs) ≡ afterOf (r .number) t′ (r .queries)
+
+-- A LINE ABOUT A LIST is answered: number, steps, queries and list are those of its call.
+abbrev pub AnswersList : ListLine → List Query → Lent (List ℕ) → Collected → Tables → Tables → Type 0
+AnswersList w qs out r t t′ =
+    listBy (w .wish) (w .lane) t qs (old out) ≡ fillingOf (r .number) t′ (r .queries) (r .steps) (r .filled) (new out)
 
 -- a number, with no steps and no list
 abbrev pub plainStep : ℕ → List Updater → List Query → LineStep

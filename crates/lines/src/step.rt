@@ -11,7 +11,7 @@ use script::line::Line;
 use script::parse::parse;
 use stage::Updater;
 
-// What a line gives: the number of its call (document 01), or 13; for a collection also the steps of the query and how many numbers of the lent list are filled; and the lanes afterwards.
+// What a line gives: the number of its call (document 01), or 13; for a reading and a collection also the steps of the query and how many numbers of the lent list are filled; and the lanes afterwards.
 pub struct LineStep {
     pub number: u32,
     pub steps: u32,
@@ -33,7 +33,7 @@ fn plain_step(number: u32, updaters: [Updater; 8], queries: [Query; 4]) -> LineS
     }
 }
 
-// Does what one line says, without its line feed. An unreadable one gives 13 and changes nothing; a collection hands its list back in `out[..filled]`.
+// Does what one line says, without its line feed. An unreadable one gives 13 and changes nothing; a reading and a collection hand their list back in `out[..filled]`.
 pub fn line_step(
     line: &[u8],
     out: &mut [u32],
@@ -57,8 +57,8 @@ pub fn line_step(
             let queries = swept.queries;
             plain_step(swept.number, updaters, queries)
         }
-        Line::Collect(lane) => {
-            let collected = list_line(lane, queries, out, words, times);
+        Line::OnList(l) => {
+            let collected = list_line(l, queries, out, words, times);
             let queries = collected.queries;
             LineStep {
                 number: collected.number,

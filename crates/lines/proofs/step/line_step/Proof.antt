@@ -2,7 +2,7 @@
 use denote.Ref.{now}
 use Rattle.tables.specs.Tables.{Tables}
 use Rattle.tables.specs.Grid.{grid}
-use Rattle.lines.proofs.Arms.{said-plain, said-unreadable, said-update, said-query, said-collect}
+use Rattle.lines.proofs.Arms.{said-plain, said-unreadable, said-update, said-query, said-list}
 use borrow.Author.Needs.{needs}
 use Rattle.lines.proofs.step.line_step.Statement.{statement}
 use Rattle.lines.proofs.step.line_step.Tie as tie
@@ -96,7 +96,7 @@ returns-4 c =
     let at-command3 = at-list-line .before .before .before .before .before in
     let at-parse = at-command3 .before .before in
     let s = at-parse .before .before .before .before in
-    said-collect _ (at-parse .parse .result) (at-parse .parse .ensures) (whole s) _ _ _ _ _ _ (at-command3 .command3 .given .1) _ _ _ _ (at-list-line .list-line .ensures)
+    said-list _ (at-parse .parse .result) (at-parse .parse .ensures) (whole s) _ _ _ _ _ _ (at-command3 .command3 .given .1) _ _ _ _ (at-list-line .list-line .ensures)
 
 pub line-step-spec : {M : Type 1} → statement M
 line-step-spec =

@@ -1,4 +1,4 @@
--- collect_one does what `collectOneInto` says: a law of Asked.antt for each answer of `admit`, and the list is as write_entries leaves it.
+-- read_one does what `readOneInto` says: a law of Asked.antt for each answer of `admit`, and the list is as write_entries leaves it.
 use mathlib.Core.Path.{_≡_, refl, sym, _∙_}
 use mathlib.Core.Bool.{Bool}
 use native.Mathlib.Omega.{arith}
@@ -12,11 +12,10 @@ use Rattle.tables.specs.Grid.{grid}
 use Rattle.tables.proofs.Grid.{grid-lengths, words-said, long}
 use Rattle.collect.proofs.Asked.{Passed, accepted-passed, handed-none, handed-over}
 use borrow.Author.Needs.{needs}
-use Rattle.collect.proofs.whole.collect_one.Statement.{statement}
-use Rattle.collect.proofs.whole.collect_one.Tie as tie
+use Rattle.collect.proofs.read.read_one.Statement.{statement}
+use Rattle.collect.proofs.read.read_one.Tie as tie
 use Rattle.collect.proofs.admission.admit.Reads as admit-reads
 use Rattle.collect.proofs.entries.write_entries.Reads as write-entries-reads
-use Rattle.collect.proofs.whole.idle.Reads as idle-reads
 use Rattle.tables.proofs.lengths.right_words.Reads as right-words-reads
 
 -- the tables that were lent
@@ -29,7 +28,7 @@ sized c =
     let s = c .before .before .before in
     sym (grid-lengths (now (s .args .words)) (now (s .args .times))) ∙ sym (c .right-words .ensures)
 
--- what an accepted collection has passed
+-- what an accepted reading has passed
 accepted : (c : tie.After-admission2) → Passed (c .before .before .before .right-words .result) (c .before .before .before .before .before .before .args .lane) (length (now (c .before .before .before .before .before .before .args .out))) (c .admission2 .given .0 .0)
 accepted c = accepted-passed _ _ _ _ _ (c .before .before .admit .ensures) _ (c .admission2 .given .1)
 
@@ -77,9 +76,6 @@ write-entries-requires c κs =
       accepted at-4 .room,
     )
 
-idle-requires : tie.Need-idle-requires
-idle-requires c κs = search needs
-
 mul-filled : tie.Need-mul-filled
 mul-filled c = search needs
 
@@ -96,17 +92,16 @@ same-length c = search needs
 returns-2 : tie.Need-returns-2
 unfolding grid
 returns-2 c =
-    let at-write-entries = c .before .before .before in
+    let at-write-entries = c .before .before in
     let at-admission2 = at-write-entries .before .before .before .before .before in
     let at-admit = at-admission2 .before .before in
-    let at-11 = at-admit .before in
-    let s = at-11 .before .before .before in
-    handed-over _ _ _ _ _ (at-admit .admit .ensures) (whole s) (sized at-11) _ (at-admission2 .admission2 .given .1)
-    (hitsAt (hitsIn (now (s .args .words)))) refl _ (at-write-entries .write-entries .ensures) _
-    (c .idle .ensures) _ (omega arith) _ (omega arith)
+    let at-right-words = at-admit .before in
+    let s = at-right-words .before .before .before in
+    handed-over _ _ _ _ _ (at-admit .admit .ensures) (whole s) (sized at-right-words) _ (at-admission2 .admission2 .given .1)
+    (hitsAt (hitsIn (now (s .args .words)))) refl _ (at-write-entries .write-entries .ensures) _ (omega arith) _ (omega arith)
 
-pub collect-one-spec : {M : Type 1} → statement M
-collect-one-spec =
+pub read-one-spec : {M : Type 1} → statement M
+read-one-spec =
     tie.close
     (tie.spec
     right-words-requires
@@ -119,7 +114,6 @@ collect-one-spec =
     part-write-entries-end
     mul-write-entries
     write-entries-requires
-    idle-requires
     mul-filled
     returns
     same-length

@@ -1,0 +1,36 @@
+// All lanes of a deck in their numbers: what the numbers of their stages tell.
+ghost use mathlib.Core.Path.{_≡_};
+ghost use Rattle.base.specs.Lent.{old};
+ghost use Rattle.codes.specs.Rest.{stagesTo, scansTo};
+use crate::query_lane::QUERY_NUMBERS;
+use crate::query_lane::SCAN_AT;
+use crate::update_lane::STAGE_AT;
+use crate::update_lane::UPDATER_NUMBERS;
+
+// No number of an update's stage is above the last one.
+pub fn stages_to(lanes: &[u32; 72], last: u32) -> bool
+    ensures { λ r. ⌜ r ≡ stagesTo (old lanes) last ⌝ }
+{
+    let mut i: usize = 0;
+    while i < 8 {
+        if lanes[UPDATER_NUMBERS * i + STAGE_AT] > last {
+            return false;
+        }
+        i += 1;
+    }
+    true
+}
+
+// No number of what comes next in a query is above the last one.
+pub fn scans_to(lanes: &[u32; 44], last: u32) -> bool
+    ensures { λ r. ⌜ r ≡ scansTo (old lanes) last ⌝ }
+{
+    let mut i: usize = 0;
+    while i < 4 {
+        if lanes[QUERY_NUMBERS * i + SCAN_AT] > last {
+            return false;
+        }
+        i += 1;
+    }
+    true
+}
