@@ -14,7 +14,7 @@
  * a deck between calls. If something is changed all the same, no call does anything undefined: where a call has to use a
  * number that cannot be right it answers 12 and changes nothing.
  *
- * A call that is refused (1 to 12) or held (20) changes nothing in the deck.
+ * A call that is refused (1 to 12, 30) or held (20) changes nothing in the deck.
  *
  * COST. Every call ends, and no loop of one is long: what is said 'at most' below counts the turns of its loops. How
  * many instructions and nanoseconds whole updates and queries take stands in README.md.
@@ -32,23 +32,24 @@
 /* ---- the numbers that a call gives (document 01's words) ---- */
 
 enum gurtheddu_number {
-    GURTHEDDU_ACCEPTED = 0,         /* a start or a collection was accepted */
+    GURTHEDDU_ACCEPTED = 0,         /* a start, a reading, a clearing or a rewind was accepted */
     GURTHEDDU_MOVED_ON = 0,         /* a step was made, and there are more */
     GURTHEDDU_NO_SUCH_LANE = 1,     /* an update lane over 7, a query lane over 3 */
     GURTHEDDU_LANE_TAKEN = 2,       /* a start in a lane that is not idle */
-    GURTHEDDU_LANE_IDLE = 3,        /* a step or a collection in an idle lane */
+    GURTHEDDU_LANE_IDLE = 3,        /* a step, a reading or a clearing in an idle lane */
     GURTHEDDU_NO_CARRIER = 4,       /* carrier number 0 */
     GURTHEDDU_OFF_THE_DECK = 5,     /* a coordinate over 16,383 */
     GURTHEDDU_CROSSED_CORNERS = 6,  /* x0 above x1, or y0 above y1 */
     GURTHEDDU_DECK_FULL = 7,        /* a new carrier where 256 are known */
     GURTHEDDU_CLOCK_SPENT = 8,      /* a start when 2,147,483,600 stamps have been drawn */
     GURTHEDDU_SWEEP_FINISHED = 9,   /* a step of a query that has finished */
-    GURTHEDDU_SWEEP_UNFINISHED = 10, /* a collection of one that has not */
+    GURTHEDDU_SWEEP_UNFINISHED = 10, /* a reading or a clearing of one that has not */
     GURTHEDDU_SHORT_LIST = 11,      /* fewer than three numbers lent for each entry */
     GURTHEDDU_BROKEN_TABLES = 12,   /* a stored number cannot be right; never from a deck that nobody else wrote to */
     GURTHEDDU_HELD = 20,            /* something is in the way and nothing was changed: try again later */
     GURTHEDDU_WENT_BACK = 21,       /* an update begins again at its first stage: step on */
-    GURTHEDDU_FINISHED = 22         /* that was the last step */
+    GURTHEDDU_FINISHED = 22,        /* that was the last step */
+    GURTHEDDU_DECK_IN_MOTION = 30   /* a rewind while an update is under way or a query lane is not idle */
 };
 
 /* ---- sizes ---- */
@@ -136,8 +137,10 @@ uint32_t gurtheddu_query_start(uint32_t *queries, uint32_t lane, uint32_t x0, ui
                                uint32_t *words, const int32_t *times);
 uint32_t gurtheddu_query_run(uint32_t *queries, uint32_t lane, uint32_t budget, uint32_t *made,
                              uint32_t *words, const int32_t *times);
-uint32_t gurtheddu_collect(uint32_t *queries, uint32_t lane, uint32_t *out, size_t out_len, uint32_t *steps,
-                           uint32_t *filled, const uint32_t *words, const int32_t *times);
+uint32_t gurtheddu_read(const uint32_t *queries, uint32_t lane, uint32_t *out, size_t out_len, uint32_t *steps,
+                        uint32_t *filled, const uint32_t *words, const int32_t *times);
+uint32_t gurtheddu_clear(uint32_t *queries, uint32_t lane, const uint32_t *words, const int32_t *times);
+uint32_t gurtheddu_rewind(const uint32_t *updaters, const uint32_t *queries, uint32_t *words, int32_t *times);
 
 #ifdef __cplusplus
 }
@@ -202,13 +205,40 @@ static inline uint32_t gd_query_step(struct gurtheddu *deck, uint32_t lane)
 }
 
 /* Writes the list of a finished query into `out`, which has `length` numbers: carrier, x, y for each entry. Later
- * numbers are left alone. `filled` is how many numbers were written, `steps` how many steps the query had. The lane is
- * idle again. Gives 0, or 1, 3, 10, 11, 12, and then `filled` and `steps` are 0.
+ * numbers are left alone. `filled` is how many numbers were written, `steps` how many steps the query had. Nothing in the
+ * deck changes, so every reading gives the same until the lane is cleared, whatever calls come between.
+ * Gives 0, or 1, 3, 10, 11, 12, and then `filled` and `steps` are 0.
  * At most 256 turns. */
+static inline uint32_t gd_read(const struct gurtheddu *deck, uint32_t lane, uint32_t *out, size_t length,
+                               uint32_t *steps, uint32_t *filled)
+{
+    return gurtheddu_read(deck->queries, lane, out, length, steps, filled, deck->words, deck->times);
+}
+
+/* Makes the lane of a finished query idle again. Gives 0, or 1, 3, 10, 12.
+ * No loop. */
+static inline uint32_t gd_clear(struct gurtheddu *deck, uint32_t lane)
+{
+    return gurtheddu_clear(deck->queries, lane, deck->words, deck->times);
+}
+
+/* Collects the list of a finished query: a reading and, if it is accepted, the clearing of its lane. Gives what the
+ * reading gives; if that is not 0, nothing is cleared. */
 static inline uint32_t gd_collect(struct gurtheddu *deck, uint32_t lane, uint32_t *out, size_t length, uint32_t *steps,
                                   uint32_t *filled)
 {
-    return gurtheddu_collect(deck->queries, lane, out, length, steps, filled, deck->words, deck->times);
+    uint32_t number = gd_read(deck, lane, out, length, steps, filled);
+    return number != 0 ? number : gd_clear(deck, lane);
+}
+
+/* Winds the clock back: a stamp above 0 becomes 1, one below 0 becomes -1, a clock above 1 becomes 1. For a deck whose
+ * clock is spent (8) or soon will be; queries started later list what they would have listed without it.
+ * Gives 0, or 12 where a lane's stage number is none, or 30 unless every lane is idle: a finished query is to be cleared
+ * first.
+ * At most 2,048 turns for the stamps, and two for each lane. */
+static inline uint32_t gd_rewind(struct gurtheddu *deck)
+{
+    return gurtheddu_rewind(deck->updaters, deck->queries, deck->words, deck->times);
 }
 
 #endif

@@ -4,7 +4,9 @@
  * With --script every line is a line of a script, as document 01 has it. Else a line may also be one of these:
  *
  *   collect LANE LENT            as C, with a lent list of LENT numbers
- *   read LANE LENT               the same, and no table is changed (a collection from a copy of the deck)
+ *   read LANE LENT               as L, with a lent list of LENT numbers
+ *   clear LANE                   as X
+ *   rewind                       n,number: winds the clock back
  *   run update LANE BUDGET       n,number,made: up to BUDGET steps of the update in LANE
  *   run query LANE BUDGET        the same of a query
  *   show                         n,clock,buckets in the store; then for each entered carrier, rising:
@@ -18,7 +20,7 @@
  * A list that is lent is watched: what a call has to leave alone and did not is said on standard error, with status 1.
  * A line that is none of these is 13 in a script and ends the run with status 2 elsewhere if it looks like a call.
  *
- * TO ADD A CALL: a row in `calls` (or in `letters`, for a letter of the script) and its function. To come are rewind,
+ * TO ADD A CALL: a row in `calls` (or in `letters`, for a letter of the script) and its function. To come are
  * looked, nearest, export, import, repair and level. */
 #include <inttypes.h>
 #include <stdio.h>
@@ -45,18 +47,19 @@ static void answer(uint32_t number)
     printf("%" PRIu64 ",%" PRIu32 "\n", line_number, number);
 }
 
-/* ---- collection ---- */
+/* ---- reading and collection ---- */
 
-/* Collects with a lent list of so many numbers, and prints what C prints. Room for more is there, so that a call that
- * writes past its list is seen. */
-static void collect_from(struct gurtheddu *from, uint32_t lane, uint32_t lent)
+/* Reads or collects with a lent list of so many numbers, and prints what L and C print. Room for more is there, so that
+ * a call that writes past its list is seen. A reading is lent a deck that it cannot change. */
+static void list_of(uint32_t lane, uint32_t lent, int clears)
 {
     static uint32_t list[LENT_MAX + 16];
     uint32_t steps = MARK, filled = MARK, number, i;
     if (lent > LENT_MAX) stop(2, "a list of more than 4096 numbers", NULL);
     for (i = 0; i < LENT_MAX + 16; i++) list[i] = MARK;
-    number = gd_collect(from, lane, list, lent, &steps, &filled);
-    if (number != 0 && (steps != 0 || filled != 0)) stop(1, "a refused collection handed something back", NULL);
+    number = clears ? gd_collect(&deck, lane, list, lent, &steps, &filled)
+                    : gd_read(&deck, lane, list, lent, &steps, &filled);
+    if (number != 0 && (steps != 0 || filled != 0)) stop(1, "a refused reading handed something back", NULL);
     if (filled > lent || filled % GURTHEDDU_ENTRY != 0) stop(1, "the filled part is none of the list", NULL);
     for (i = filled; i < LENT_MAX + 16; i++)
         if (list[i] != MARK) stop(1, "a number behind the filled part was written", NULL);
@@ -75,7 +78,9 @@ static void letter_r(const uint32_t *f) { answer(gd_update_start(&deck, f[0], f[
 static void letter_u(const uint32_t *f) { answer(gd_update_step(&deck, f[0])); }
 static void letter_q(const uint32_t *f) { answer(gd_query_start(&deck, f[0], f[1], f[2], f[3], f[4])); }
 static void letter_s(const uint32_t *f) { answer(gd_query_step(&deck, f[0])); }
-static void letter_c(const uint32_t *f) { collect_from(&deck, f[0], GURTHEDDU_LIST); }
+static void letter_c(const uint32_t *f) { list_of(f[0], GURTHEDDU_LIST, 1); }
+static void letter_l(const uint32_t *f) { list_of(f[0], GURTHEDDU_LIST, 0); }
+static void letter_x(const uint32_t *f) { answer(gd_clear(&deck, f[0])); }
 
 enum { FIELDS_MAX = 5 };
 static const struct letter {
@@ -83,7 +88,8 @@ static const struct letter {
     int fields;
     void (*run)(const uint32_t *fields);
 } letters[] = {
-    {'R', 4, letter_r}, {'U', 1, letter_u}, {'Q', 5, letter_q}, {'S', 1, letter_s}, {'C', 1, letter_c},
+    {'R', 4, letter_r}, {'U', 1, letter_u}, {'Q', 5, letter_q}, {'S', 1, letter_s},
+    {'C', 1, letter_c}, {'L', 1, letter_l}, {'X', 1, letter_x},
 };
 
 /* A number of a script: decimal, 0 to 4,294,967,295, no sign, no needless leading zero. Gives what follows it, or NULL. */
@@ -129,13 +135,14 @@ static uint32_t small_number(const char *word)
     return (uint32_t)n;
 }
 
-static void call_collect(char **word) { collect_from(&deck, small_number(word[1]), small_number(word[2])); }
+static void call_collect(char **word) { list_of(small_number(word[1]), small_number(word[2]), 1); }
+static void call_read(char **word) { list_of(small_number(word[1]), small_number(word[2]), 0); }
+static void call_clear(char **word) { answer(gd_clear(&deck, small_number(word[1]))); }
 
-static void call_read(char **word)
+static void call_rewind(char **word)
 {
-    static struct gurtheddu copy;
-    copy = deck;
-    collect_from(&copy, small_number(word[1]), small_number(word[2]));
+    (void)word;
+    answer(gd_rewind(&deck));
 }
 
 static void call_run(char **word)
@@ -317,8 +324,9 @@ static const struct call {
     int words; /* its name and what follows */
     void (*run)(char **word);
 } calls[] = {
-    {"changed", 1, call_changed}, {"collect", 3, call_collect}, {"read", 3, call_read}, {"run", 4, call_run},
-    {"same", 1, call_same},       {"set", 5, call_set},         {"show", 1, call_show},
+    {"changed", 1, call_changed}, {"clear", 2, call_clear}, {"collect", 3, call_collect}, {"read", 3, call_read},
+    {"rewind", 1, call_rewind},   {"run", 4, call_run},     {"same", 1, call_same},       {"set", 5, call_set},
+    {"show", 1, call_show},
 };
 
 /* Makes the call of a line if it begins with a call's name, which no line of a script does. */

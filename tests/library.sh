@@ -2,7 +2,7 @@
 # Tests the library as a program in C meets it, a row for each thing: tests/library.sh
 # It builds the archive where that is older than a source (tools/library), compiles what is under tests/ and examples/
 # against it, and runs: the example, every script with known answers, a long script beside the script program, every
-# file of calls under tests/calls, and the measurement of the stack. CC names another compiler than cc.
+# file of calls under tests/calls, those with rewinds, and the measurement of the stack. CC names another compiler than cc.
 # It ends with 'N passed, 0 failed' and status 0, or with the rows that failed and status 1.
 LC_ALL=C
 export LC_ALL
@@ -79,11 +79,15 @@ row 'the line of README compiles and runs it' examples/deck.out readme
 echo '# scripts, through the library'
 row 'tests/calls.c compiles' - compile tests/calls.c calls || end
 row 'examples/worked.script' examples/worked.out "$tmp/calls" --script examples/worked.script
+# The answers to a file among those of a program that prints a line '# NAME' before the answers to each: PROGRAM NAME.
+answers() {
+    awk -v name="# $2" '/^# / { on = ($0 == name); found += on; next } on { print } END { exit !found }' "$1/stdout" >"$tmp/want" ||
+        echo "no answers to $2 in $1/stdout" >"$tmp/want"
+}
 vectors=crates/test_vectors
 for script in "$vectors"/data/*.in; do
     name=$(basename "$script")
-    awk -v name="# $name" '/^# / { on = ($0 == name); found += on; next } on { print } END { exit !found }' "$vectors/stdout" >"$tmp/want" ||
-        echo "no answers to $name in $vectors/stdout" >"$tmp/want"
+    answers "$vectors" "$name"
     row "$name" "$tmp/want" "$tmp/calls" --script "$script"
 done
 # A long script of all lines, readable or not, beside the script program.
@@ -96,7 +100,9 @@ awk 'function any(n) { seed = (seed * 16807) % 2147483647; return seed % n }
             else if (k < 70) print "S," any(5)
             else if (k < 86) printf "R,%d,%d,%d,%d\n", any(9), any(290), any(3000), any(16500)
             else if (k < 93) { x = any(3000); y = any(9000); printf "Q,%d,%d,%d,%d,%d\n", any(5), x, y, x + any(4000) - 9, y + any(9000) - 9 }
-            else if (k < 99) print "C," any(5)
+            else if (k < 96) print "C," any(5)
+            else if (k < 98) print "L," any(5)
+            else if (k < 99) print "X," any(5)
             else print substr("R,0,01,1,1 U,00 Q,1,2,3 C S,4294967296 U,4294967295 u,0 ", 1 + any(50), any(12))
         }
     }' >"$tmp/long"
@@ -111,6 +117,12 @@ fi
 echo '# files of calls, through the library'
 for calls in tests/calls/*.calls; do
     row "$(basename "$calls")" "${calls%.calls}.out" "$tmp/calls" "$calls"
+done
+rewinds=crates/test_calls
+for calls in "$rewinds"/data/*.calls; do
+    name=$(basename "$calls")
+    answers "$rewinds" "$name"
+    row "$name" "$tmp/want" "$tmp/calls" "$calls"
 done
 
 echo '# the stack'

@@ -36,7 +36,9 @@ static void mix(void)
         case 5: case 6: seen |= gd_query_run(&deck, any(5), any(12), &made); break;
         default:
             seen |= gd_query_start(&deck, any(5), 0, 0, x, y);
+            seen |= gd_read(&deck, any(5), list, any(GURTHEDDU_LIST + 1), &steps, &filled);
             seen |= gd_collect(&deck, any(5), list, any(GURTHEDDU_LIST + 1), &steps, &filled);
+            seen |= gd_rewind(&deck);
         }
     }
 }

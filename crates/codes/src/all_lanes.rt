@@ -1,5 +1,7 @@
 // All lanes of a deck in their numbers: what the numbers of their stages tell.
 ghost use mathlib.Core.Path.{_≡_};
+ghost use mathlib.Core.Bool.{_&&_};
+ghost use lib.Dec.{eqb};
 ghost use Rattle.base.specs.Lent.{old};
 ghost use Rattle.codes.specs.Rest.{stagesTo, scansTo};
 use crate::query_lane::QUERY_NUMBERS;
@@ -33,4 +35,17 @@ pub fn scans_to(lanes: &[u32; 44], last: u32) -> bool
         i += 1;
     }
     true
+}
+
+// 0 if every lane is idle, else 1.
+pub fn moving(updaters: &[u32; 72], queries: &[u32; 44]) -> u32
+    ensures { λ r. ⌜ eqb r 0 ≡ (stagesTo (old updaters) 0 && scansTo (old queries) 0) ⌝ }
+{
+    if !stages_to(updaters, 0) {
+        return 1;
+    }
+    if !scans_to(queries, 0) {
+        return 1;
+    }
+    0
 }

@@ -3,14 +3,15 @@ use mathlib.Core.Path.{_≡_, refl, sym, ap, _∙_}
 use mathlib.Core.Bool.{Bool, true, false, _&&_}
 use mathlib.Core.List.{List}
 use Prim.Native.Nat.{ℕ}
-use Rattle.tables.specs.Tables.{Tables, rightLengths}
+use lib.Dec.{eqb}
+use lib.ListN.{replicate}
+use Rattle.tables.specs.Tables.{Tables}
 use Rattle.calls.specs.Call.{After, after, afterOf, unless}
 use Rattle.stage.specs.declared.Updater.{Updater}
 use Rattle.query.specs.declared.Query.{Query}
-use Rattle.updates.specs.Update.{idleUpdater, idleUpdaters}
-use Rattle.queries.specs.Query.{idleQuery, idleQueries}
-use Rattle.rest.specs.Rest.{AllIdle, atRest}
-use Rattle.rest.proofs.Facts.{facts-at-rest}
+use Rattle.stage.specs.Turn.{isIdle}
+use Rattle.queries.specs.Query.{isIdle as isIdleQuery, idleQueries}
+use Rattle.rest.specs.Rest.{allBelow, updatersIdle, queriesIdle, atRest}
 use Rattle.rewind.specs.Rewind.{rewindTables}
 use Rattle.codes.specs.Rest.{stagesTo, scansTo, updatersIn, queriesIn}
 use Rattle.codes.proofs.Rest.{rest-told}
@@ -21,9 +22,11 @@ by-rest : (t : Tables) (us us′ : List Updater) (qs qs′ : List Query) → atR
 unfolding rewindTables
 by-rest t us us′ qs qs′ e = rw e
 
--- every lane idle
-idle-rest : atRest idleUpdaters idleQueries ≡ true
-idle-rest = refl
+-- eight lanes alike, and no query
+eight : (u : Updater) (b : Bool) → isIdle (u .stage) ≡ b → atRest (replicate 8 u) idleQueries ≡ b
+unfolding atRest updatersIdle queriesIdle allBelow isIdleQuery idleQueries
+eight u true e = rw e
+eight u false e = rw e
 
 module _ (t : Tables) (us qs : List ℕ) where
   pub rewind-nameless : stagesTo us 14 ≡ false → after t tt (rewindDeck t us qs) ≡ afterOf 12 t tt
@@ -40,20 +43,10 @@ module _ (t : Tables) (us qs : List ℕ) where
       unfolding rewindDeck unless
       onward = rw (e, f)
 
-      -- in motion
-      moving : rightLengths t ≡ true → (stagesTo us 0 && scansTo qs 0) ≡ false → after t tt (rewindDeck t us qs) ≡ afterOf 30 t tt
-      unfolding rewindTables unless after
-      moving r b = ap (after t tt) onward ∙ rw (r, rest-told us qs e f, b)
-
-      pub rewind-moving : rightLengths t ≡ true → stagesTo us 0 ≡ false → after t tt (rewindDeck t us qs) ≡ afterOf 30 t tt
-      rewind-moving r h = moving r (rw h)
-
-      pub rewind-busy : rightLengths t ≡ true → stagesTo us 0 ≡ true → scansTo qs 0 ≡ false → after t tt (rewindDeck t us qs) ≡ afterOf 30 t tt
-      rewind-busy r h k = moving r (rw (h, k))
-
-      -- at rest: what a rewind with every lane idle does
-      pub rewind-rests : stagesTo us 0 ≡ true → scansTo qs 0 ≡ true → (vs : List Updater) → vs ≡ idleUpdaters → (ws : List Query) → ws ≡ idleQueries
-          → {a : After (Unit {0})} → after t tt (rewindTables t vs ws) ≡ a → after t tt (rewindDeck t us qs) ≡ a
-      rewind-rests h k vs ev ws ew d =
-          let b : atRest (updatersIn us) (queriesIn qs) ≡ true = rest-told us qs e f ∙ rw (h, k) in
-          ap (after t tt) (onward ∙ by-rest t (updatersIn us) idleUpdaters (queriesIn qs) idleQueries (b ∙ sym idle-rest)) ∙ rw (ev, ew) at d
+      -- what a rewind does with lanes that are idle exactly if all of these are
+      pub rewind-as : (m : ℕ) → eqb m 0 ≡ (stagesTo us 0 && scansTo qs 0) → (u : Updater) → isIdle (u .stage) ≡ eqb m 0 → (ws : List Query) → ws ≡ idleQueries
+          → {a : After (Unit {0})} → after t tt (rewindTables t (replicate 8 u) ws) ≡ a → after t tt (rewindDeck t us qs) ≡ a
+      rewind-as m h u i ws ew d =
+          let b : atRest (updatersIn us) (queriesIn qs) ≡ eqb m 0 = rest-told us qs e f ∙ sym h in
+          ap (after t tt) (onward ∙ by-rest t (updatersIn us) (replicate 8 u) (queriesIn qs) idleQueries (b ∙ sym (eight u (eqb m 0) i)))
+          ∙ ap (λ (vs : List Query). after t tt (rewindTables t (replicate 8 u) vs)) (sym ew) ∙ d

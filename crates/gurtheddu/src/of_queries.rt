@@ -138,9 +138,9 @@ pub extern "C" fn gurtheddu_clear(
         return 12;
     }
     let q = load_query(queries, at);
-    let one = clear_one(q, lane, words, times);
-    if one.number != 0 {
-        return one.number;
+    let cleared = clear_one(q, lane, words, times);
+    if cleared.number != 0 {
+        return cleared.number;
     }
     store_idle(queries, at);
     0

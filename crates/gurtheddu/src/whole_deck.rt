@@ -1,13 +1,14 @@
 // The calls of a whole deck: the empty grid (document 01: a fresh deck), and winding the clock back (document 02, request a).
 ghost use Rattle.tables.specs.Promise.{OnGrid};
 ghost use Rattle.gurtheddu.specs.Promise.{ResetsDeck, RewindsDeck};
-use base::BUSY;
 use base::CORRUPT;
 use base::DONE;
+use codes::all_lanes::moving;
 use codes::all_lanes::scans_to;
 use codes::all_lanes::stages_to;
 use codes::query_lane::LAST_SCAN;
 use codes::update_lane::LAST_STAGE;
+use codes::update_lane::seen_updater;
 use grid::reset::reset;
 use queries::lanes::idle_queries;
 use rewind::whole::rewind;
@@ -51,13 +52,7 @@ pub extern "C" fn gurtheddu_rewind(
     if !scans_to(queries, LAST_SCAN) {
         return CORRUPT;
     }
-    if !stages_to(updaters, 0) {
-        return BUSY;
-    }
-    if !scans_to(queries, 0) {
-        return BUSY;
-    }
-    let us = idle_updaters();
+    let u = seen_updater(moving(updaters, queries));
     let qs = idle_queries();
-    rewind(us, qs, words, times)
+    rewind([u; 8], qs, words, times)
 }
