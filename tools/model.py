@@ -426,25 +426,57 @@ class Deck:
         self.word(HIT_YS + 256 * lane + at, y)
         q[Q_HITS] = max(size, at + 1)
 
-    def collect(self, lane, out, lent):
-        """(number, steps, filled): writes into `out`, a list of which `lent` numbers are lent."""
-        self.handed = (0, 0)
-        number = self.call(self.collect_list, lane, out, lent)
-        return (number, *self.handed)
-
-    def collect_list(self, lane, out, lent):
+    def finished(self, lane):
+        """The numbers of a lane whose sweep has finished."""
         unless(lane <= 3, 1)
         q = list(self.queries[11 * lane : 11 * lane + 11])
         need(q[Q_STAGE] <= 3)
         unless(q[Q_STAGE] != IDLE, 3)
         unless(q[Q_STAGE] == FINISHED, 10)
+        return q
+
+    def reading(self, lane, out, lent):
+        """(number, steps, filled): writes into `out`, a list of which `lent` numbers are lent."""
+        self.handed = (0, 0)
+        number = self.call(self.read_list, lane, out, lent)
+        return (number, *self.handed)
+
+    def read_list(self, lane, out, lent):
+        q = self.finished(lane)
         unless(3 * q[Q_HITS] <= lent, 11)
         for i in range(self.within(q[Q_HITS], 256)):
             for k, column in enumerate((HITS, HIT_XS, HIT_YS)):
                 self.put(out, 3 * i + k, self.words[column + 256 * lane + i])
+        self.handed = (q[Q_STEPS], 3 * q[Q_HITS])
+        return 0
+
+    def clear(self, lane):
+        return self.call(self.clear_lane, lane)
+
+    def clear_lane(self, lane):
+        self.finished(lane)
         for i in (Q_STAGE, Q_CELL, Q_BUCKET, Q_LEFT):
             self.put(self.queries, 11 * lane + i, 0)
-        self.handed = (q[Q_STEPS], 3 * q[Q_HITS])
+        return 0
+
+    def collect(self, lane, out, lent):
+        """A reading and then, if it is accepted, the clearing."""
+        handed = self.reading(lane, out, lent)
+        return handed if handed[0] else (self.clear(lane), *handed[1:])
+
+    # ---- winding the clock back
+
+    def rewind(self):
+        return self.call(self.wind_back)
+
+    def wind_back(self):
+        stages = [self.updaters[9 * lane + STAGE] for lane in range(8)]
+        scans = [self.queries[11 * lane + Q_STAGE] for lane in range(4)]
+        need(max(stages) <= 14 and max(scans) <= 3)
+        unless(not any(stages) and not any(scans), 30)
+        for i, stamp in enumerate(self.times):
+            self.put(self.times, i, (stamp > 0) - (stamp < 0))
+        self.word(CLOCK, min(self.words[CLOCK], 1))
         return 0
 
     # ---- runs

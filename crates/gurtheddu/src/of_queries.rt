@@ -107,11 +107,11 @@ pub extern "C" fn gurtheddu_read(
     *steps = 0;
     *filled = 0;
     if lane >= QUERY_COUNT {
-        return 1;
+        return NO_SUCH_LANE;
     }
     let at = QUERY_NUMBERS * (lane as usize);
     if queries[at + SCAN_AT] > LAST_SCAN {
-        return 12;
+        return CORRUPT;
     }
     let q = load_query(queries, at);
     let reading = read_one(q, lane, out, words, times);
@@ -131,11 +131,11 @@ pub extern "C" fn gurtheddu_clear(
     ensures { λ r. ⌜ OnGrid words times (ClearsLane queries lane r) ⌝ }
 {
     if lane >= QUERY_COUNT {
-        return 1;
+        return NO_SUCH_LANE;
     }
     let at = QUERY_NUMBERS * (lane as usize);
     if queries[at + SCAN_AT] > LAST_SCAN {
-        return 12;
+        return CORRUPT;
     }
     let q = load_query(queries, at);
     let cleared = clear_one(q, lane, words, times);
@@ -143,5 +143,5 @@ pub extern "C" fn gurtheddu_clear(
         return cleared.number;
     }
     store_idle(queries, at);
-    0
+    DONE
 }
