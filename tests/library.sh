@@ -118,12 +118,6 @@ echo '# files of calls, through the library'
 for calls in tests/calls/*.calls; do
     row "$(basename "$calls")" "${calls%.calls}.out" "$tmp/calls" "$calls"
 done
-rewinds=crates/test_calls
-for calls in "$rewinds"/data/*.calls; do
-    name=$(basename "$calls")
-    answers "$rewinds" "$name"
-    row "$name" "$tmp/want" "$tmp/calls" "$calls"
-done
 
 echo '# the stack'
 row 'tests/stack.c compiles' - compile tests/stack.c stack
