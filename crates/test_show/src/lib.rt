@@ -25,19 +25,6 @@ pub fn same_numbers(a: &[u32], b: &[u32]) -> bool
     true
 }
 
-// Whether two tables have the same stamps.
-pub fn same_times(a: &[i32], b: &[i32]) -> bool {
-    if a.len() != b.len() {
-        return false;
-    }
-    for i in 0..a.len() {
-        if a[i] != b[i] {
-            return false;
-        }
-    }
-    true
-}
-
 // Puts a number into the words from one place up to another.
 pub fn fill(words: &mut [u32], from: usize, to: usize, value: u32)
     requires { ⌜ (from ≤ to) × (to ≤ length (now words)) ⌝ }
