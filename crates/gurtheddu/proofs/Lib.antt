@@ -3,4 +3,5 @@ mod OfUpdates
 mod OfQueries
 mod Fresh
 pub mod Runs
+pub mod Steps
 mod Wound

@@ -97,7 +97,7 @@ module _ {L : Type 0} where
   ended false r k t v u h z = h z
 
   module _ (step : Tables → L → Result L) (still : (t : Tables) (u : L) → carriedOut (after t u (step t u) .number) ≡ 0 → after t u (step t u) .lanes ≡ u) where
-    run-still : (n : ℕ) (t : Tables) (u : L) → runSteps step n t u .made ≡ 0 → runSteps step n t u .lanes ≡ u
+    pub run-still : (n : ℕ) (t : Tables) (u : L) → runSteps step n t u .made ≡ 0 → runSteps step n t u .lanes ≡ u
     unfolding runSteps
     run-still zero t u z = refl
     run-still (suc n) t u z =
@@ -138,7 +138,7 @@ module _ (t : Tables) (l : ℕ) (u : Updater) where
   same-stage : (o : Outcome (Move Tables)) → Moves Moved o → Still (after t u (stepped t u (withStage u) o) .number) → Same t u (after t u (stepped t u (withStage u) o))
   same-stage o m h = same-stepped t u (withStage u) o (λ n e q. let k = rw q at h in not-moved (move-of (rw e at m)) (k .0) (k .1) (k .2))
 
-  update-still : carriedOut (after t u (stepOne t l u) .number) ≡ 0 → after t u (stepOne t l u) .lanes ≡ u
+  pub update-still : carriedOut (after t u (stepOne t l u) .number) ≡ 0 → after t u (stepOne t l u) .lanes ≡ u
   unfolding stepOne
   update-still z =
       let past = same-unless t u Still in
@@ -176,7 +176,7 @@ module _ (t : Tables) (l : ℕ) (q : Query) where
   same-scan : (o : Outcome (Step Query Tables)) → Moves Gone o → Still (after t q (stepped t q (λ (p : Query). p) o) .number) → Same t q (after t q (stepped t q (λ (p : Query). p) o))
   same-scan o m h = same-stepped t q (λ (p : Query). p) o (λ n e w. let k = rw w at h in let g = move-of (rw e at m) in idle-number (n .next .stage) (rw g at k))
 
-  query-still : carriedOut (after t q (queryOne t l q) .number) ≡ 0 → after t q (queryOne t l q) .lanes ≡ q
+  pub query-still : carriedOut (after t q (queryOne t l q) .number) ≡ 0 → after t q (queryOne t l q) .lanes ≡ q
   unfolding queryOne
   query-still z =
       let past = same-unless t q Still in

@@ -5,11 +5,14 @@ use mathlib.Core.Path.{_≡_}
 use mathlib.Core.Bool.{true}
 use mathlib.Core.List.{List, [], _∷_}
 use Prim.Native.Nat.{ℕ, zero, suc, _<_}
+use lib.Dec.{eqb}
 use lib.ListN.{length}
+use Rattle.base.specs.Numbers.{DONE}
+use Rattle.base.specs.Outcome.{pick}
 use Rattle.stage.specs.declared.Updater.{Updater}
 use Rattle.query.specs.declared.Query.{Query}
 use Rattle.tables.specs.Tables.{Tables}
-use Rattle.calls.specs.Run.{Ran, ranOf}
+use Rattle.calls.specs.Run.{Ran, ranOf, later}
 use Rattle.update_run.specs.Run.{runLane}
 use Rattle.query_run.specs.Run.{runLane as runQueries}
 use Rattle.codes.specs.Updaters.{namesStage, updaterIn}
@@ -41,3 +44,18 @@ abbrev pub SweepRunIsCalls : Type 0
 SweepRunIsCalls =
     (n l : ℕ) (t : Tables) (ns : List ℕ) → length ns ≡ 44 → l < 4 → namesScan ns l ≡ true
     → decodedRun queriesIn (runSweep n l t ns) ≡ runQueries n l t (queriesIn ns)
+
+-- ---- the same in C's own terms: a run of n steps is n runs of one step, which is what a step is there
+
+-- so many calls of an operation on coded lanes, one after the other, ended by the first number that is not 0
+unfoldable pub callsOf : (Tables → List ℕ → Ran (List ℕ)) → ℕ → Tables → List ℕ → Ran (List ℕ)
+callsOf one zero t ns = ranOf DONE 0 t ns
+callsOf one (suc n) t ns =
+    let a = one t ns in
+    pick (eqb (a .number) DONE) (later (a .made) (callsOf one n (a .tables) (a .lanes))) a
+
+abbrev pub UpdateRunIsSteps : Type 0
+UpdateRunIsSteps = (n l : ℕ) (t : Tables) (ns : List ℕ) → length ns ≡ 72 → runUpdate n l t ns ≡ callsOf (runUpdate 1 l) n t ns
+
+abbrev pub SweepRunIsSteps : Type 0
+SweepRunIsSteps = (n l : ℕ) (t : Tables) (ns : List ℕ) → length ns ≡ 44 → runSweep n l t ns ≡ callsOf (runSweep 1 l) n t ns
