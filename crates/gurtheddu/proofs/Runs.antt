@@ -1,6 +1,6 @@
--- A CODED RUN IS SO MANY CALLS. In the lane itself a run is its calls already (`update-run-calls`, `query-run-calls`); that its lane is stored and all are
--- decoded is one lane replaced among the decoded ones, since coding and decoding are inverse; and where nothing is stored no step was carried out, so that the
--- lane is as it was.
+-- A CODED RUN IS SO MANY CALLS. In the lane itself a run is its calls already (`update-run-calls`, `query-run-calls`).
+-- That its lane is stored and all are decoded is one lane replaced among the decoded ones, since coding and decoding are
+-- inverse; and where nothing is stored no step was carried out, so that the lane is as it was.
 use mathlib.Core.Path.{_≡_, refl, sym, ap, _∙_}
 use mathlib.Core.Logic.{_≢_}
 use mathlib.Core.Bool.{Bool, true, false}

@@ -1,6 +1,7 @@
 -- A CODED RUN IS SO MANY CODED STEPS: a run of n steps is n runs of one step, up to the first number that is not 0.
--- By induction over the steps: after a step that gives 0 the lane is stored and read back as it was left, storing twice is storing once, and a run that carries out
--- no step leaves the lane as it was. A lane that is none and a number that names no stage end both at once.
+-- By induction over the steps: after a step that gives 0 the lane is stored and read back as it was left, storing twice
+-- is storing once, and a run that carries out no step leaves the lane as it was.
+-- A lane that is none and a number that names no stage end both at once.
 use mathlib.Core.Path.{_≡_, refl, sym, ap, _∙_}
 use mathlib.Core.Bool.{Bool, true, false}
 use mathlib.Core.List.{List, _++_, append-assoc}

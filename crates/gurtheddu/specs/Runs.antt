@@ -1,6 +1,8 @@
--- A CODED RUN IS SO MANY CALLS: what a run of up to n steps in one of the coded lanes comes to, with its lanes decoded, is what n calls of report step, or of sweep
--- step, in that lane come to on the decoded lanes, one after the other, up to the first number that is not 0. That it holds is proofs/Runs.antt.
--- A lane that is none gives 1 and a number that names no stage gives 12, in the run by its definition: there is no call on decoded lanes to compare it with.
+-- A CODED RUN IS SO MANY CALLS: what a run of up to n steps in one of the coded lanes comes to, with its lanes decoded,
+-- is what n calls of report step, or of sweep step, in that lane come to on the decoded lanes, one after the other, up to
+-- the first number that is not 0; and it is n runs of one step. That both hold is proofs/Runs.antt and proofs/Steps.antt.
+-- A lane that is none gives 1, and a number that names no stage gives 12: on decoded lanes there is no call to compare
+-- that with.
 use mathlib.Core.Path.{_≡_}
 use mathlib.Core.Bool.{true}
 use mathlib.Core.List.{List, [], _∷_}
