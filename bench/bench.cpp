@@ -28,7 +28,7 @@ extern "C" {
 struct Twin;
 Twin *twin_new();
 uint32_t twin_reset(Twin *);
-uint32_t twin_update_start(Twin *, uint32_t lane, uint32_t oid, uint32_t x, uint32_t y);
+uint32_t twin_update_start(Twin *, uint32_t lane, uint32_t oid, uint32_t x, uint32_t y, uint32_t tag);
 uint32_t twin_update_step(Twin *, uint32_t lane);
 uint32_t twin_query_start(Twin *, uint32_t lane, uint32_t x0, uint32_t y0, uint32_t x1, uint32_t y1);
 uint32_t twin_query_step(Twin *, uint32_t lane);
@@ -56,7 +56,7 @@ struct LibraryRun { // a run of steps under one call
     void update(const Move &m)
     {
         uint32_t made;
-        must(gd_update_start(&deck, 0, m.carrier, m.x, m.y) == 0);
+        must(gd_update_start(&deck, 0, m.carrier, m.x, m.y, m.carrier % 10) == 0);
         must(gd_update_run(&deck, 0, 1000000, &made) == GURTHEDDU_FINISHED);
     }
     void query(const Square &s, List &l)
@@ -74,7 +74,7 @@ struct LibraryStep { // a step under each call
     void update(const Move &m)
     {
         uint32_t number;
-        must(gd_update_start(&deck, 0, m.carrier, m.x, m.y) == 0);
+        must(gd_update_start(&deck, 0, m.carrier, m.x, m.y, m.carrier % 10) == 0);
         do number = gd_update_step(&deck, 0);
         while (number == 0);
         must(number == GURTHEDDU_FINISHED);
@@ -96,7 +96,7 @@ struct TwinStep { // the twin, a step under each call
     void update(const Move &m)
     {
         uint32_t number;
-        must(twin_update_start(deck, 0, m.carrier, m.x, m.y) == 0);
+        must(twin_update_start(deck, 0, m.carrier, m.x, m.y, m.carrier % 10) == 0);
         do number = twin_update_step(deck, 0);
         while (number == 0);
         must(number == GURTHEDDU_FINISHED);

@@ -55,7 +55,8 @@ fn line(d: &mut twin::Deck, l: &[u8], n: u64, list: &mut [u32], out: &mut Vec<u8
     let (mut steps, mut filled) = (0u32, 0usize);
     let a = unsafe {
         match (ok, l.first(), k) {
-            (true, Some(b'R'), 4) => d.update_start(f[0], f[1], f[2], f[3]),
+            (true, Some(b'R'), 4) => d.update_start(f[0], f[1], f[2], f[3], 0),
+            (true, Some(b'R'), 5) => d.update_start(f[0], f[1], f[2], f[3], f[4]),
             (true, Some(b'U'), 1) => d.update_step(f[0]),
             (true, Some(b'Q'), 5) => d.query_start(f[0], f[1], f[2], f[3], f[4]),
             (true, Some(b'S'), 1) => d.query_step(f[0]),
@@ -68,14 +69,16 @@ fn line(d: &mut twin::Deck, l: &[u8], n: u64, list: &mut [u32], out: &mut Vec<u8
         out.push(b',');
         put(out, steps as u64);
         out.push(b',');
-        put(out, filled as u64 / 3);
+        put(out, filled as u64 / 4);
         out.push(b'\n');
-        for e in list[..filled].chunks_exact(3) {
+        for e in list[..filled].chunks_exact(4) {
             put(out, e[0] as u64);
             out.push(b',');
             put(out, e[1] as u64);
             out.push(b',');
             put(out, e[2] as u64);
+            out.push(b',');
+            put(out, e[3] as u64);
             out.push(b'\n');
         }
     } else {
@@ -85,7 +88,7 @@ fn line(d: &mut twin::Deck, l: &[u8], n: u64, list: &mut [u32], out: &mut Vec<u8
 fn main() {
     let mut d = Box::new(twin::Deck::new());
     d.reset();
-    let mut list = [0u32; 768];
+    let mut list = [0u32; 1024];
     let mut block = [0u8; 4096];
     let mut rest: Vec<u8> = Vec::new();
     let mut out: Vec<u8> = Vec::with_capacity(32768);

@@ -43,6 +43,7 @@ pub struct Updater {
     oid: u32,
     x: u32,
     y: u32,
+    tag: u32,
     stage: Stage,
 }
 
@@ -74,6 +75,7 @@ pub struct Deck {
     owners: [u32; 2048],
     xs: [u32; 2048],
     ys: [u32; 2048],
+    tags: [u32; 2048],
     times: [i32; 2048],
     oids: [u32; 512],
     locks: [u32; 512],
@@ -83,6 +85,7 @@ pub struct Deck {
     hits: [u32; 1024],
     hitxs: [u32; 1024],
     hitys: [u32; 1024],
+    hittags: [u32; 1024],
     clock: u32,
     updaters: [Updater; 8],
     queries: [Query; 4],
@@ -102,7 +105,7 @@ macro_rules! m {
 
 impl Deck {
     pub const fn new() -> Deck {
-        let u = Updater { oid: 0, x: 0, y: 0, stage: Stage::Idle };
+        let u = Updater { oid: 0, x: 0, y: 0, tag: 0, stage: Stage::Idle };
         let q = Query { x0: 0, y0: 0, x1: 0, y1: 0, stamp: 0, hits: 0, steps: 0, stage: Scan::Idle };
         Deck {
             first: [NONE; 256],
@@ -113,6 +116,7 @@ impl Deck {
             owners: [0; 2048],
             xs: [0; 2048],
             ys: [0; 2048],
+            tags: [0; 2048],
             times: [0; 2048],
             oids: [0; 512],
             locks: [0; 512],
@@ -122,6 +126,7 @@ impl Deck {
             hits: [0; 1024],
             hitxs: [0; 1024],
             hitys: [0; 1024],
+            hittags: [0; 1024],
             clock: 0,
             updaters: [u; 8],
             queries: [q; 4],
@@ -159,14 +164,15 @@ impl Deck {
         self.clock
     }
     #[inline(always)]
-    unsafe fn put(&mut self, i: u32, oid: u32, x: u32, y: u32, time: i32) {
+    unsafe fn put(&mut self, i: u32, oid: u32, x: u32, y: u32, tag: u32, time: i32) {
         m!(self.owners, i) = oid;
         m!(self.xs, i) = x;
         m!(self.ys, i) = y;
+        m!(self.tags, i) = tag;
         m!(self.times, i) = time;
     }
 
-    pub unsafe fn update_start(&mut self, lane: u32, oid: u32, x: u32, y: u32) -> u32 {
+    pub unsafe fn update_start(&mut self, lane: u32, oid: u32, x: u32, y: u32, tag: u32) -> u32 {
         if lane >= 8 {
             return 1;
         }
@@ -178,6 +184,9 @@ impl Deck {
         }
         if x > 16383 || y > 16383 {
             return 5;
+        }
+        if tag > 9 {
+            return 31;
         }
         let (known, i) = self.find(oid);
         if !known && self.oids.iter().filter(|&&o| o != 0).count() >= 256 {
@@ -192,7 +201,7 @@ impl Deck {
             m!(self.current, i) = NOWHERE;
             m!(self.previous, i) = NOWHERE;
         }
-        m!(self.updaters, lane) = Updater { oid, x, y, stage: Stage::TakeObject };
+        m!(self.updaters, lane) = Updater { oid, x, y, tag, stage: Stage::TakeObject };
         0
     }
 
@@ -200,7 +209,7 @@ impl Deck {
         if lane >= 8 {
             return 1;
         }
-        let Updater { oid, x, y, stage } = g!(self.updaters, lane);
+        let Updater { oid, x, y, tag, stage } = g!(self.updaters, lane);
         let owner = lane + 1;
         let next = match stage {
             Stage::Idle => return 3,
@@ -248,6 +257,7 @@ impl Deck {
                     g!(self.owners, from),
                     g!(self.xs, from),
                     g!(self.ys, from),
+                    g!(self.tags, from),
                     g!(self.times, from),
                 );
                 Stage::LowerCount(p, moved)
@@ -292,7 +302,7 @@ impl Deck {
                 let cell = y / 1024 * 16 + x / 1024;
                 if n != NOWHERE && n / 2048 == cell {
                     let t = self.draw();
-                    self.put(n % 2048, oid, x, y, t as i32);
+                    self.put(n % 2048, oid, x, y, tag, t as i32);
                     Stage::ReleaseObject
                 } else {
                     if g!(self.cells, cell) != 0 {
@@ -320,7 +330,7 @@ impl Deck {
                 let bucket = g!(self.first, cell);
                 let slot = g!(self.count, bucket);
                 let t = self.draw();
-                self.put(4 * bucket + slot, oid, x, y, t as i32);
+                self.put(4 * bucket + slot, oid, x, y, tag, t as i32);
                 Stage::RaiseCount(Place { cell, bucket, slot })
             }
             Stage::RaiseCount(p) => {
@@ -421,7 +431,7 @@ impl Deck {
             }
             Scan::Read(cell, b, left) => {
                 let i = 4 * b + left - 1;
-                let (x, y, t) = (g!(self.xs, i), g!(self.ys, i), g!(self.times, i));
+                let (x, y, tag, t) = (g!(self.xs, i), g!(self.ys, i), g!(self.tags, i), g!(self.times, i));
                 let inside = x >= (*q).x0 && x <= (*q).x1 && y >= (*q).y0 && y <= (*q).y1;
                 if inside && (t > 0 || t.unsigned_abs() > (*q).stamp) {
                     let oid = g!(self.owners, i);
@@ -438,10 +448,12 @@ impl Deck {
                         m!(self.hits, from + size) = oid;
                         m!(self.hitxs, from + size) = x;
                         m!(self.hitys, from + size) = y;
+                        m!(self.hittags, from + size) = tag;
                         (*q).hits += 1;
                     } else if t > 0 {
                         m!(self.hitxs, from + found) = x;
                         m!(self.hitys, from + found) = y;
+                        m!(self.hittags, from + found) = tag;
                     }
                 }
                 Scan::Read(cell, b, left - 1)
@@ -469,18 +481,19 @@ impl Deck {
             _ => return 10,
         }
         let n = q.hits as usize;
-        if out.len() < 3 * n {
+        if out.len() < 4 * n {
             return 11;
         }
         let from = 256 * lane as usize;
         for i in 0..n {
-            m!(out, 3 * i) = g!(self.hits, from + i);
-            m!(out, 3 * i + 1) = g!(self.hitxs, from + i);
-            m!(out, 3 * i + 2) = g!(self.hitys, from + i);
+            m!(out, 4 * i) = g!(self.hits, from + i);
+            m!(out, 4 * i + 1) = g!(self.hitxs, from + i);
+            m!(out, 4 * i + 2) = g!(self.hitys, from + i);
+            m!(out, 4 * i + 3) = g!(self.hittags, from + i);
         }
         q.stage = Scan::Idle;
         *steps = q.steps;
-        *filled = 3 * n;
+        *filled = 4 * n;
         0
     }
 }
@@ -498,8 +511,8 @@ pub unsafe extern "C" fn twin_reset(d: *mut Deck) -> u32 {
     0
 }
 #[no_mangle]
-pub unsafe extern "C" fn twin_update_start(d: *mut Deck, lane: u32, oid: u32, x: u32, y: u32) -> u32 {
-    (*d).update_start(lane, oid, x, y)
+pub unsafe extern "C" fn twin_update_start(d: *mut Deck, lane: u32, oid: u32, x: u32, y: u32, tag: u32) -> u32 {
+    (*d).update_start(lane, oid, x, y, tag)
 }
 #[no_mangle]
 pub unsafe extern "C" fn twin_update_step(d: *mut Deck, lane: u32) -> u32 {
@@ -529,10 +542,10 @@ pub unsafe extern "C" fn twin_collect(
 pub unsafe extern "C" fn twin_dump(d: *const Deck, out: *mut u32) -> usize {
     let d = &*d;
     let mut v: Vec<u32> = Vec::new();
-    for t in [&d.cells[..], &d.first, &d.count, &d.next, &d.readers, &d.owners, &d.xs, &d.ys] {
+    for t in [&d.cells[..], &d.first, &d.count, &d.next, &d.readers, &d.owners, &d.xs, &d.ys, &d.tags] {
         v.extend_from_slice(t);
     }
-    for t in [&d.oids[..], &d.locks, &d.current, &d.previous, &d.hits, &d.hitxs, &d.hitys] {
+    for t in [&d.oids[..], &d.locks, &d.current, &d.previous, &d.hits, &d.hitxs, &d.hitys, &d.hittags] {
         v.extend_from_slice(t);
     }
     v.push(d.clock);

@@ -17,10 +17,10 @@ static void expect(uint32_t number, uint32_t wanted, const char *what)
 }
 
 /* One report from its start to its end. Nobody else steps in between, so it is never held. */
-static void report(uint32_t lane, uint32_t carrier, uint32_t x, uint32_t y)
+static void report(uint32_t lane, uint32_t carrier, uint32_t x, uint32_t y, uint32_t mark)
 {
     uint32_t made;
-    expect(gd_update_start(&deck, lane, carrier, x, y), GURTHEDDU_ACCEPTED, "report");
+    expect(gd_update_start(&deck, lane, carrier, x, y, mark), GURTHEDDU_ACCEPTED, "report");
     expect(gd_update_run(&deck, lane, 100, &made), GURTHEDDU_FINISHED, "report");
     printf("carrier %u is at (%u, %u) after %u steps\n", (unsigned)carrier, (unsigned)x, (unsigned)y, (unsigned)made);
 }
@@ -49,19 +49,20 @@ int main(void)
     uint32_t list[GURTHEDDU_LIST], steps, filled, i;
 
     expect(gd_reset(&deck), GURTHEDDU_ACCEPTED, "reset");
-    report(0, 7, 100, 100);
-    report(0, 19, 2100, 100);
-    report(0, 30, 5000, 5000);
+    report(0, 7, 100, 100, 1);
+    report(0, 19, 2100, 100, 2);
+    report(0, 30, 5000, 5000, 0);
 
     /* The sweep has read the first cell when carrier 19 begins to move there from a cell that it has not read. */
     expect(gd_query_start(&deck, 0, 0, 0, 3071, 1023), GURTHEDDU_ACCEPTED, "sweep");
     for (i = 0; i < 3; i++) expect(gd_query_step(&deck, 0), GURTHEDDU_MOVED_ON, "sweep step");
-    expect(gd_update_start(&deck, 0, 19, 200, 100), GURTHEDDU_ACCEPTED, "report");
+    expect(gd_update_start(&deck, 0, 19, 200, 100, 3), GURTHEDDU_ACCEPTED, "report");
     take_turns();
 
     expect(gd_collect(&deck, 0, list, GURTHEDDU_LIST, &steps, &filled), GURTHEDDU_ACCEPTED, "collection");
     printf("the sweep had %u steps and lists %u carriers\n", (unsigned)steps, (unsigned)(filled / GURTHEDDU_ENTRY));
     for (i = 0; i < filled; i += GURTHEDDU_ENTRY)
-        printf("carrier %u at (%u, %u)\n", (unsigned)list[i], (unsigned)list[i + 1], (unsigned)list[i + 2]);
+        printf("carrier %u at (%u, %u) with mark %u\n", (unsigned)list[i], (unsigned)list[i + 1], (unsigned)list[i + 2],
+               (unsigned)list[i + 3]);
     return 0;
 }

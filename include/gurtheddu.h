@@ -6,7 +6,7 @@
  *
  * Build the archive with `tools/library`, and link it: cc -Iinclude program.c target/staticlib/libgurtheddu.a
  *
- * A deck is one `struct gurtheddu`, which the caller keeps wherever it likes: 63,960 bytes without a pointer. It can be
+ * A deck is one `struct gurtheddu`, which the caller keeps wherever it likes: 76,280 bytes without a pointer. It can be
  * copied by assignment, saved and loaded as its bytes, and compared with memcmp. The library keeps nothing of its own
  * and allocates nothing, so a program can have several decks.
  *
@@ -14,7 +14,7 @@
  * a deck between calls. If something is changed all the same, no call does anything undefined: where a call has to use a
  * number that cannot be right it answers 12 and changes nothing.
  *
- * A call that is refused (1 to 12, 30) or held (20) changes nothing in the deck.
+ * A call that is refused (1 to 12, 30, 31) or held (20) changes nothing in the deck.
  *
  * COST. Every call ends, and no loop of one is long: what is said 'at most' below counts the turns of its loops. How
  * many instructions and nanoseconds whole updates and queries take stands in README.md.
@@ -44,12 +44,13 @@ enum gurtheddu_number {
     GURTHEDDU_CLOCK_SPENT = 8,      /* a start when 2,147,483,600 stamps have been drawn */
     GURTHEDDU_SWEEP_FINISHED = 9,   /* a step of a query that has finished */
     GURTHEDDU_SWEEP_UNFINISHED = 10, /* a reading or a clearing of one that has not */
-    GURTHEDDU_SHORT_LIST = 11,      /* fewer than three numbers lent for each entry */
+    GURTHEDDU_SHORT_LIST = 11,      /* fewer than four numbers lent for each entry */
     GURTHEDDU_BROKEN_TABLES = 12,   /* a stored number cannot be right; never from a deck that nobody else wrote to */
     GURTHEDDU_HELD = 20,            /* something is in the way and nothing was changed: try again later */
     GURTHEDDU_WENT_BACK = 21,       /* an update begins again at its first stage: step on */
     GURTHEDDU_FINISHED = 22,        /* that was the last step */
-    GURTHEDDU_DECK_IN_MOTION = 30   /* a rewind while an update is under way or a query lane is not idle */
+    GURTHEDDU_DECK_IN_MOTION = 30,  /* a rewind while an update is under way or a query lane is not idle */
+    GURTHEDDU_MARK_OVER = 31        /* a mark over 9 */
 };
 
 /* ---- sizes ---- */
@@ -59,8 +60,9 @@ enum {
     GURTHEDDU_QUERY_LANES = 4,
     GURTHEDDU_CARRIERS = 256,       /* known at most */
     GURTHEDDU_COORDINATES = 16384,  /* x and y are below this, in tenths of a millimetre */
-    GURTHEDDU_ENTRY = 3,            /* numbers of an entry of a list: carrier, x, y */
-    GURTHEDDU_LIST = 768,           /* numbers of a list of 256 entries: no list is longer */
+    GURTHEDDU_MARKS = 10,           /* the load mark of a carrier is below this */
+    GURTHEDDU_ENTRY = 4,            /* numbers of an entry of a list: carrier, x, y, mark */
+    GURTHEDDU_LIST = 1024,          /* numbers of a list of 256 entries: no list is longer */
     GURTHEDDU_STACK = 512           /* bytes of stack of a call, measured */
 };
 
@@ -72,19 +74,21 @@ enum {
     GURTHEDDU_COUNT = 512,          /* 512: slots of each bucket in use, 0 to 4 */
     GURTHEDDU_NEXT = 1024,          /* 512: the bucket after each bucket; 512 is none */
     GURTHEDDU_READERS = 1536,       /* 512: queries that stand in each bucket, 0 to 4 */
-    GURTHEDDU_TUPLES = 2048,        /* 3 columns of 2,048; slot s of bucket b is at 4 * b + s: the carriers, */
+    GURTHEDDU_TUPLES = 2048,        /* 4 columns of 2,048; slot s of bucket b is at 4 * b + s: the carriers, */
     GURTHEDDU_TUPLE_XS = 2048,      /*     x at GURTHEDDU_TUPLES + GURTHEDDU_TUPLE_XS, */
-    GURTHEDDU_TUPLE_YS = 4096,      /*     y at GURTHEDDU_TUPLES + GURTHEDDU_TUPLE_YS */
-    GURTHEDDU_INDEX = 8192,         /* 4 columns of 512, one entry for each known carrier: the carriers (0 is none), */
+    GURTHEDDU_TUPLE_YS = 4096,      /*     y at GURTHEDDU_TUPLES + GURTHEDDU_TUPLE_YS, */
+    GURTHEDDU_TUPLE_TAGS = 6144,    /*     marks at GURTHEDDU_TUPLES + GURTHEDDU_TUPLE_TAGS */
+    GURTHEDDU_INDEX = 10240,        /* 4 columns of 512, one entry for each known carrier: the carriers (0 is none), */
     GURTHEDDU_INDEX_LOCKS = 512,    /*     locks at GURTHEDDU_INDEX + GURTHEDDU_INDEX_LOCKS, */
     GURTHEDDU_INDEX_CURRENT = 1024, /*     current places, 2,048 * cell + 4 * bucket + slot; 524,288 is none, */
     GURTHEDDU_INDEX_PREVIOUS = 1536, /*    former places */
-    GURTHEDDU_HITS = 10240,         /* 3 columns of 1,024; the list of query lane q is from 256 * q: the carriers, */
+    GURTHEDDU_HITS = 12288,         /* 4 columns of 1,024; the list of query lane q is from 256 * q: the carriers, */
     GURTHEDDU_HIT_XS = 1024,        /*     x at GURTHEDDU_HITS + GURTHEDDU_HIT_XS, */
-    GURTHEDDU_HIT_YS = 2048,        /*     y at GURTHEDDU_HITS + GURTHEDDU_HIT_YS */
-    GURTHEDDU_CLOCK = 13312,        /* 1: the last stamp drawn */
-    GURTHEDDU_POOL = 13313,         /* 513: the free buckets, a stack, and its height in the last number */
-    GURTHEDDU_WORDS = 13826,        /* the length of all */
+    GURTHEDDU_HIT_YS = 2048,        /*     y at GURTHEDDU_HITS + GURTHEDDU_HIT_YS, */
+    GURTHEDDU_HIT_TAGS = 3072,      /*     marks at GURTHEDDU_HITS + GURTHEDDU_HIT_TAGS */
+    GURTHEDDU_CLOCK = 16384,        /* 1: the last stamp drawn */
+    GURTHEDDU_POOL = 16385,         /* 513: the free buckets, a stack, and its height in the last number */
+    GURTHEDDU_WORDS = 16898,        /* the length of all */
     GURTHEDDU_TIMES = 2048,         /* stamps, one for each slot, at 4 * b + s: above 0 current, below 0 former */
     GURTHEDDU_NO_BUCKET = 512,
     GURTHEDDU_NO_PLACE = 524288
@@ -94,11 +98,12 @@ enum {
 
 enum {
     GURTHEDDU_U_CARRIER, GURTHEDDU_U_X, GURTHEDDU_U_Y,
+    GURTHEDDU_U_TAG,                /* the mark reported */
     GURTHEDDU_U_STAGE,              /* 0 idle, else the stage that the next step makes, 1 to 14 */
     GURTHEDDU_U_CELL, GURTHEDDU_U_BUCKET, GURTHEDDU_U_SLOT, /* a place: the former one (stages 2 to 7, 13), the new one */
     GURTHEDDU_U_MOVED,              /* the carrier whose tuple fills the gap (stages 4 to 7) */
     GURTHEDDU_U_UNLINKED,           /* the bucket to return (stage 6) */
-    GURTHEDDU_UPDATER               /* how many numbers a lane has: 9 */
+    GURTHEDDU_UPDATER               /* how many numbers a lane has: 10 */
 };
 
 enum {
@@ -129,7 +134,7 @@ extern "C" {
 
 /* No pointer may be null, each leads to as many numbers as is said, and no two of them overlap. */
 uint32_t gurtheddu_reset(uint32_t *updaters, uint32_t *queries, uint32_t *words, int32_t *times);
-uint32_t gurtheddu_update_start(uint32_t *updaters, uint32_t lane, uint32_t oid, uint32_t x, uint32_t y,
+uint32_t gurtheddu_update_start(uint32_t *updaters, uint32_t lane, uint32_t oid, uint32_t x, uint32_t y, uint32_t tag,
                                 uint32_t *words, const int32_t *times);
 uint32_t gurtheddu_update_run(uint32_t *updaters, uint32_t lane, uint32_t budget, uint32_t *made,
                               uint32_t *words, int32_t *times);
@@ -149,18 +154,19 @@ uint32_t gurtheddu_rewind(const uint32_t *updaters, const uint32_t *queries, uin
 /* ---- the calls on a deck ---- */
 
 /* Makes a fresh deck of whatever was there: every deck begins so. Gives 0.
- * Writes all 15,990 numbers. */
+ * Writes all 19,070 numbers. */
 static inline uint32_t gd_reset(struct gurtheddu *deck)
 {
     return gurtheddu_reset(deck->updaters, deck->queries, deck->words, deck->times);
 }
 
-/* Starts an update in a lane, 0 to 7: the carrier, any number but 0, is now at (x, y). It counts from its last step on.
- * Gives 0, or 1, 2, 4, 5, 7, 8, 12.
+/* Starts an update in a lane, 0 to 7: the carrier, any number but 0, is now at (x, y) and has this
+ * mark, 0 to 9. It counts from its last step on. Gives 0, or 1, 2, 4, 5, 31, 7, 8, 12.
  * At most 512 turns to find the carrier, and 512 to count the known ones where it is new. */
-static inline uint32_t gd_update_start(struct gurtheddu *deck, uint32_t lane, uint32_t carrier, uint32_t x, uint32_t y)
+static inline uint32_t gd_update_start(struct gurtheddu *deck, uint32_t lane, uint32_t carrier, uint32_t x, uint32_t y,
+                                       uint32_t mark)
 {
-    return gurtheddu_update_start(deck->updaters, lane, carrier, x, y, deck->words, deck->times);
+    return gurtheddu_update_start(deck->updaters, lane, carrier, x, y, mark, deck->words, deck->times);
 }
 
 /* Makes up to `budget` steps of the update in a lane, ended by the first number that is not 0, and gives the last
@@ -204,7 +210,7 @@ static inline uint32_t gd_query_step(struct gurtheddu *deck, uint32_t lane)
     return gd_query_run(deck, lane, 1, &made);
 }
 
-/* Writes the list of a finished query into `out`, which has `length` numbers: carrier, x, y for each entry. Later
+/* Writes the list of a finished query into `out`, which has `length` numbers: carrier, x, y, mark for each entry. Later
  * numbers are left alone. `filled` is how many numbers were written, `steps` how many steps the query had. Nothing in the
  * deck changes, so every reading gives the same until the lane is cleared, whatever calls come between.
  * Gives 0, or 1, 3, 10, 11, 12, and then `filled` and `steps` are 0.

@@ -10,7 +10,7 @@
  *   run update LANE BUDGET       n,number,made: up to BUDGET steps of the update in LANE
  *   run query LANE BUDGET        the same of a query
  *   show                         n,clock,buckets in the store; then for each entered carrier, rising:
- *                                carrier,x,y,mark,stamp,former stamp or none (the mark is 0; no place: none,none,..)
+ *                                carrier,x,y,mark,stamp,former stamp or none (no place: none,none,..)
  *   set TABLE INDEX FIELD VALUE  n,0: puts a number into a table; `tables` below has all of them, - is no index or field
  *   same                         n,yes if the deck is as before the line before this one, else n,no
  *   changed                      n,how many numbers of the deck the line before this one changed; then each of them:
@@ -69,12 +69,13 @@ static void list_of(uint32_t lane, uint32_t lent, int clears)
     }
     printf("%" PRIu64 ",0,%" PRIu32 ",%" PRIu32 "\n", line_number, steps, filled / GURTHEDDU_ENTRY);
     for (i = 0; i < filled; i += GURTHEDDU_ENTRY)
-        printf("%" PRIu32 ",%" PRIu32 ",%" PRIu32 "\n", list[i], list[i + 1], list[i + 2]);
+        printf("%" PRIu32 ",%" PRIu32 ",%" PRIu32 ",%" PRIu32 "\n", list[i], list[i + 1], list[i + 2], list[i + 3]);
 }
 
 /* ---- lines of a script ---- */
 
-static void letter_r(const uint32_t *f) { answer(gd_update_start(&deck, f[0], f[1], f[2], f[3])); }
+static void letter_r4(const uint32_t *f) { answer(gd_update_start(&deck, f[0], f[1], f[2], f[3], 0)); }
+static void letter_r5(const uint32_t *f) { answer(gd_update_start(&deck, f[0], f[1], f[2], f[3], f[4])); }
 static void letter_u(const uint32_t *f) { answer(gd_update_step(&deck, f[0])); }
 static void letter_q(const uint32_t *f) { answer(gd_query_start(&deck, f[0], f[1], f[2], f[3], f[4])); }
 static void letter_s(const uint32_t *f) { answer(gd_query_step(&deck, f[0])); }
@@ -88,7 +89,7 @@ static const struct letter {
     int fields;
     void (*run)(const uint32_t *fields);
 } letters[] = {
-    {'R', 4, letter_r}, {'U', 1, letter_u}, {'Q', 5, letter_q}, {'S', 1, letter_s},
+    {'R', 4, letter_r4}, {'R', 5, letter_r5}, {'U', 1, letter_u}, {'Q', 5, letter_q}, {'S', 1, letter_s},
     {'C', 1, letter_c}, {'L', 1, letter_l}, {'X', 1, letter_x},
 };
 
@@ -110,19 +111,17 @@ static const char *script_number(const char *at, const char *end, uint32_t *numb
 static const struct letter *script_line(const char *line, size_t length, uint32_t *fields)
 {
     const char *at = line + 1, *end = line + length;
-    const struct letter *found = NULL;
     size_t i;
     int n = 0;
     if (length == 0 || length > LINE_BYTES) return NULL;
-    for (i = 0; i < sizeof letters / sizeof *letters; i++)
-        if (letters[i].letter == line[0]) found = &letters[i];
-    if (!found) return NULL;
     for (; at < end; n++) {
-        if (n == found->fields || *at != ',') return NULL;
+        if (n == FIELDS_MAX || *at != ',') return NULL;
         at = script_number(at + 1, end, &fields[n]);
         if (!at) return NULL;
     }
-    return n == found->fields ? found : NULL;
+    for (i = 0; i < sizeof letters / sizeof *letters; i++)
+        if (letters[i].letter == line[0] && letters[i].fields == n) return &letters[i];
+    return NULL;
 }
 
 /* ---- calls that have no script line ---- */
@@ -167,8 +166,8 @@ static void show_place(uint32_t place)
     uint32_t slot = place % 2048;
     if (place >= GURTHEDDU_NO_PLACE) printf(",none,none,none,none");
     else
-        printf(",%" PRIu32 ",%" PRIu32 ",0,%" PRId32, tuples[GURTHEDDU_TUPLE_XS + slot],
-               tuples[GURTHEDDU_TUPLE_YS + slot], deck.times[slot]);
+        printf(",%" PRIu32 ",%" PRIu32 ",%" PRIu32 ",%" PRId32, tuples[GURTHEDDU_TUPLE_XS + slot],
+               tuples[GURTHEDDU_TUPLE_YS + slot], tuples[GURTHEDDU_TUPLE_TAGS + slot], deck.times[slot]);
 }
 
 static void call_show(char **word)
@@ -209,6 +208,7 @@ static const struct table {
     {"slots", "carrier", deck.words + GURTHEDDU_TUPLES, 2048, 1, 4, NUMBER},
     {"slots", "x", deck.words + GURTHEDDU_TUPLES + GURTHEDDU_TUPLE_XS, 2048, 1, 4, NUMBER},
     {"slots", "y", deck.words + GURTHEDDU_TUPLES + GURTHEDDU_TUPLE_YS, 2048, 1, 4, NUMBER},
+    {"slots", "mark", deck.words + GURTHEDDU_TUPLES + GURTHEDDU_TUPLE_TAGS, 2048, 1, 4, NUMBER},
     {"slots", "stamp", NULL, 2048, 1, 4, STAMP},
     {"directory", "carrier", deck.words + GURTHEDDU_INDEX, 512, 1, 0, NUMBER},
     {"directory", "lock", deck.words + GURTHEDDU_INDEX + GURTHEDDU_INDEX_LOCKS, 512, 1, 0, NUMBER},
@@ -217,12 +217,14 @@ static const struct table {
     {"lists", "carrier", deck.words + GURTHEDDU_HITS, 1024, 1, 256, NUMBER},
     {"lists", "x", deck.words + GURTHEDDU_HITS + GURTHEDDU_HIT_XS, 1024, 1, 256, NUMBER},
     {"lists", "y", deck.words + GURTHEDDU_HITS + GURTHEDDU_HIT_YS, 1024, 1, 256, NUMBER},
+    {"lists", "mark", deck.words + GURTHEDDU_HITS + GURTHEDDU_HIT_TAGS, 1024, 1, 256, NUMBER},
     {"clock", "-", deck.words + GURTHEDDU_CLOCK, 1, 1, 0, NUMBER},
     {"store", "-", deck.words + GURTHEDDU_POOL, 512, 1, 0, NUMBER},
     {"store", "height", deck.words + GURTHEDDU_POOL + 512, 1, 1, 0, NUMBER},
     {"updates", "carrier", deck.updaters + GURTHEDDU_U_CARRIER, 8, GURTHEDDU_UPDATER, 0, NUMBER},
     {"updates", "x", deck.updaters + GURTHEDDU_U_X, 8, GURTHEDDU_UPDATER, 0, NUMBER},
     {"updates", "y", deck.updaters + GURTHEDDU_U_Y, 8, GURTHEDDU_UPDATER, 0, NUMBER},
+    {"updates", "mark", deck.updaters + GURTHEDDU_U_TAG, 8, GURTHEDDU_UPDATER, 0, NUMBER},
     {"updates", "stage", deck.updaters + GURTHEDDU_U_STAGE, 8, GURTHEDDU_UPDATER, 0, NUMBER},
     {"updates", "cell", deck.updaters + GURTHEDDU_U_CELL, 8, GURTHEDDU_UPDATER, 0, NUMBER},
     {"updates", "bucket", deck.updaters + GURTHEDDU_U_BUCKET, 8, GURTHEDDU_UPDATER, 0, NUMBER},

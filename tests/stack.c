@@ -31,7 +31,7 @@ static void mix(void)
     for (i = 0; i < 200000; i++) {
         x = any(3000), y = any(3000);
         switch (any(8)) {
-        case 0: case 1: seen |= gd_update_start(&deck, any(9), any(300), x, y); break;
+        case 0: case 1: seen |= gd_update_start(&deck, any(9), any(300), x, y, any(11)); break;
         case 2: case 3: case 4: seen |= gd_update_run(&deck, any(9), any(6), &made); break;
         case 5: case 6: seen |= gd_query_run(&deck, any(5), any(12), &made); break;
         default:

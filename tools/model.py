@@ -9,10 +9,10 @@ follow document 01's order, and tests may stand wherever a number is used.
 
 # Where the tables begin in the words (docs/TABLES.md).
 CELLS, FIRST, COUNT, NEXT, READERS = 0, 256, 512, 1024, 1536
-CARRIERS, XS, YS = 2048, 4096, 6144
-KNOWN, LOCKS, CURRENT, FORMER = 8192, 8704, 9216, 9728
-HITS, HIT_XS, HIT_YS = 10240, 11264, 12288
-CLOCK, POOL, HEIGHT, WORDS = 13312, 13313, 13825, 13826
+CARRIERS, XS, YS, MARKS = 2048, 4096, 6144, 8192
+KNOWN, LOCKS, CURRENT, FORMER = 10240, 10752, 11264, 11776
+HITS, HIT_XS, HIT_YS, HIT_MARKS = 12288, 13312, 14336, 15360
+CLOCK, POOL, HEIGHT, WORDS = 16384, 16385, 16897, 16898
 TIMES = 2048
 NO_BUCKET, NO_PLACE = 512, 524288
 
@@ -21,7 +21,7 @@ SPENT = 2147483600  # from here on a start is refused
 ALL = 4294967295  # the largest number of 32 bits
 
 # Numbers of a lane.
-CARRIER, X, Y, STAGE, CELL, BUCKET, SLOT, MOVED, UNLINKED = range(9)
+CARRIER, X, Y, MARK, STAGE, CELL, BUCKET, SLOT, MOVED, UNLINKED = range(10)
 Q_X0, Q_Y0, Q_X1, Q_Y1, Q_STAMP, Q_HITS, Q_STEPS, Q_STAGE, Q_CELL, Q_BUCKET, Q_LEFT = range(11)
 IDLE, ENTER, READ, FINISHED = range(4)
 
@@ -98,10 +98,11 @@ class Deck:
         self.word(CLOCK, stamp)
         return stamp
 
-    def put_tuple(self, at, carrier, x, y, stamp):
+    def put_tuple(self, at, carrier, x, y, mark, stamp):
         self.word(CARRIERS + at, carrier)
         self.word(XS + at, x)
         self.word(YS + at, y)
+        self.word(MARKS + at, mark)
         self.put(self.times, at, stamp)
 
     def cell_of(self, x, y):
@@ -140,23 +141,24 @@ class Deck:
             words[CURRENT + i] = words[FORMER + i] = NO_PLACE
             words[POOL + i] = i
         words[HEIGHT] = 512
-        for lanes, n in ((self.times, TIMES), (self.updaters, 72), (self.queries, 44)):
+        for lanes, n in ((self.times, TIMES), (self.updaters, 80), (self.queries, 44)):
             for i in range(n):
                 lanes[i] = 0
         return 0
 
     # ---- reports
 
-    def update_start(self, lane, carrier, x, y):
-        return self.call(self.start_update, lane, carrier, x, y)
+    def update_start(self, lane, carrier, x, y, mark):
+        return self.call(self.start_update, lane, carrier, x, y, mark)
 
-    def start_update(self, lane, carrier, x, y):
+    def start_update(self, lane, carrier, x, y, mark):
         unless(lane <= 7, 1)
-        stage = self.updaters[9 * lane + STAGE]
+        stage = self.updaters[10 * lane + STAGE]
         need(stage <= 14)
         unless(stage == 0, 2)
         unless(carrier != 0, 4)
         unless(x <= 16383 and y <= 16383, 5)
+        unless(mark <= 9, 31)
         found, at = self.search(carrier)
         if not found:
             known = sum(1 for i in range(512) if self.words[KNOWN + i] != 0)
@@ -168,8 +170,8 @@ class Deck:
             self.word(LOCKS + at, 0)
             self.word(CURRENT + at, NO_PLACE)
             self.word(FORMER + at, NO_PLACE)
-        for i, value in enumerate((carrier, x, y, 1, 0, 0, 0, 0, 0)):
-            self.put(self.updaters, 9 * lane + i, value)
+        for i, value in enumerate((carrier, x, y, mark, 1, 0, 0, 0, 0, 0)):
+            self.put(self.updaters, 10 * lane + i, value)
         return 0
 
     def update_step(self, lane):
@@ -177,7 +179,7 @@ class Deck:
 
     def step_update(self, lane):
         unless(lane <= 7, 1)
-        u = list(self.updaters[9 * lane : 9 * lane + 9])
+        u = list(self.updaters[10 * lane : 10 * lane + 10])
         need(u[STAGE] <= 14)
         unless(u[STAGE] != 0, 3)
         return self.STAGES[u[STAGE]](self, lane, u)
@@ -185,7 +187,7 @@ class Deck:
     def goes(self, lane, stage, place=(0, 0, 0), moved=0, unlinked=0, number=0):
         """The lane goes on to a stage with its data; what the stage does not carry is 0."""
         for i, value in enumerate((stage, *place, moved, unlinked)):
-            self.put(self.updaters, 9 * lane + STAGE + i, value)
+            self.put(self.updaters, 10 * lane + STAGE + i, value)
         return number
 
     def stage_1(self, lane, u):
@@ -225,7 +227,7 @@ class Deck:
         last = self.last_tuple(u[CELL])[1]
         to = self.slot_of(u[BUCKET], u[SLOT])
         words = self.words
-        self.put_tuple(to, words[CARRIERS + last], words[XS + last], words[YS + last], self.times[last])
+        self.put_tuple(to, words[CARRIERS + last], words[XS + last], words[YS + last], words[MARKS + last], self.times[last])
         return self.goes(lane, 5, u[CELL:MOVED], u[MOVED])
 
     def stage_5(self, lane, u):
@@ -263,7 +265,7 @@ class Deck:
         cell = self.cell_of(u[X], u[Y])
         place = self.within(self.words[CURRENT + self.entry(u[CARRIER])], NO_PLACE)
         if place != NO_PLACE and place // 2048 == cell:
-            self.put_tuple(place % 2048, u[CARRIER], u[X], u[Y], self.draw())
+            self.put_tuple(place % 2048, u[CARRIER], u[X], u[Y], u[MARK], self.draw())
             return self.goes(lane, 14)
         self.lock_at(CELLS + cell)
         self.word(CELLS + cell, lane + 1)
@@ -286,7 +288,7 @@ class Deck:
         cell = self.cell_of(u[X], u[Y])
         bucket = self.needed_bucket(cell)
         count = self.words[COUNT + bucket]
-        self.put_tuple(self.slot_of(bucket, count), u[CARRIER], u[X], u[Y], self.draw())
+        self.put_tuple(self.slot_of(bucket, count), u[CARRIER], u[X], u[Y], u[MARK], self.draw())
         return self.goes(lane, 11, (cell, bucket, count))
 
     def stage_11(self, lane, u):
@@ -404,15 +406,15 @@ class Deck:
         slot = self.slot_of(q[Q_BUCKET], q[Q_LEFT] - 1)
         stamp = self.times[slot]
         need(stamp != 0 and stamp >= -LAST_STAMP)
-        carrier, x, y = (self.words[column + slot] for column in (CARRIERS, XS, YS))
+        carrier, x, y, mark = (self.words[column + slot] for column in (CARRIERS, XS, YS, MARKS))
         if q[Q_X0] <= x <= q[Q_X1] and q[Q_Y0] <= y <= q[Q_Y1]:
             if stamp < 0:
                 need(0 < q[Q_STAMP] <= LAST_STAMP)
             if stamp > 0 or -stamp > q[Q_STAMP]:
-                self.note(lane, q, carrier, x, y, stamp > 0)
+                self.note(lane, q, carrier, x, y, mark, stamp > 0)
         return self.walks(lane, q, READ, q[Q_CELL], q[Q_BUCKET], q[Q_LEFT] - 1)
 
-    def note(self, lane, q, carrier, x, y, replaces):
+    def note(self, lane, q, carrier, x, y, mark, replaces):
         """A tuple that belongs on the list: added, or put over the carrier's entry if it is a current one."""
         size = self.within(q[Q_HITS], 256)
         at = 0
@@ -424,6 +426,7 @@ class Deck:
         self.word(HITS + 256 * lane + at, carrier)
         self.word(HIT_XS + 256 * lane + at, x)
         self.word(HIT_YS + 256 * lane + at, y)
+        self.word(HIT_MARKS + 256 * lane + at, mark)
         q[Q_HITS] = max(size, at + 1)
 
     def finished(self, lane):
@@ -443,11 +446,11 @@ class Deck:
 
     def read_list(self, lane, out, lent):
         q = self.finished(lane)
-        unless(3 * q[Q_HITS] <= lent, 11)
+        unless(4 * q[Q_HITS] <= lent, 11)
         for i in range(self.within(q[Q_HITS], 256)):
-            for k, column in enumerate((HITS, HIT_XS, HIT_YS)):
-                self.put(out, 3 * i + k, self.words[column + 256 * lane + i])
-        self.handed = (q[Q_STEPS], 3 * q[Q_HITS])
+            for k, column in enumerate((HITS, HIT_XS, HIT_YS, HIT_MARKS)):
+                self.put(out, 4 * i + k, self.words[column + 256 * lane + i])
+        self.handed = (q[Q_STEPS], 4 * q[Q_HITS])
         return 0
 
     def clear(self, lane):
@@ -470,7 +473,7 @@ class Deck:
         return self.call(self.wind_back)
 
     def wind_back(self):
-        stages = [self.updaters[9 * lane + STAGE] for lane in range(8)]
+        stages = [self.updaters[10 * lane + STAGE] for lane in range(8)]
         scans = [self.queries[11 * lane + Q_STAGE] for lane in range(4)]
         need(max(stages) <= 14 and max(scans) <= 3)
         unless(not any(stages) and not any(scans), 30)

@@ -153,31 +153,33 @@ module _ (g g′ : Grid) (G : Good g) (G′ : Good g′) (B : Both g g′) (l : 
   clock-passes e = lt-ltb (g′ .tables .clock) 2147483600
       (omega (arith, ltb-true (g .tables .clock) 2147483600 e, B .tables .clock))
 
-  start-same : (k x y : ℕ) → after (g .tables) us (updateStart (g .tables) us l k x y) .number ≢ 8
-      → Same O (after (g .tables) us (updateStart (g .tables) us l k x y))
-      (after (g′ .tables) us (updateStart (g′ .tables) us l k x y))
+  start-same : (k x y m : ℕ) → after (g .tables) us (updateStart (g .tables) us l k x y m) .number ≢ 8
+      → Same O (after (g .tables) us (updateStart (g .tables) us l k x y m))
+      (after (g′ .tables) us (updateStart (g′ .tables) us l k x y m))
   unfolding updateStart unless after
-  start-same k x y =
+  start-same k x y m =
       let z = sized (g .tables) (G .shape .lengths) in
       let z′ = sized (g′ .tables) (G′ .shape .lengths) in
       let d = g .tables .index .oid in
       let room : (b : Bool) → hasRoom (search d k) d ≡ b → hasRoom (search (g′ .tables .index .oid) k)
       (g′ .tables .index .oid) ≡ b = λ b h. ap (λ (x : Index). hasRoom (search (x .oid) k) (x .oid)) index-same
       ∙ h in
-      let u : Updater = record { oid = k; x = x; y = y; stage = TakeObject } in
+      let u : Updater = record { oid = k; x = x; y = y; tag = m; stage = TakeObject } in
       by-test (ltb l 8)
       (λ h₁. by-test (isIdle (getD us l idleUpdater .stage))
       (λ h₂. by-test (not (eqb k 0))
       (λ h₃. by-test (onGrid x y)
-      (λ h₄. by-test (hasRoom (search d k) d)
+      (λ h₄. by-test (leb m 9)
+      (λ h₇. by-test (hasRoom (search d k) d)
       (λ h₅. by-test (ltb (g .tables .clock) 2147483600)
-      (λ h₆. rw (z, z′, h₁, h₂, h₃, h₄, h₅, room true h₅, h₆, clock-passes h₆)
+      (λ h₆. rw (z, z′, h₁, h₂, h₃, h₄, h₇, h₅, room true h₅, h₆, clock-passes h₆)
       (λ n. subst (λ (o : Outcome Index). Same O (after (g .tables) us
       (started (g .tables) us l u (enter (g .tables .index) k)))
       (after (g′ .tables) us (started (g′ .tables) us l u o))) (ap (λ (x : Index). enter x k) (sym index-same))
       (by-start u (enter (g .tables .index) k))))
-      (λ h₆. rw (z, h₁, h₂, h₃, h₄, h₅, h₆) (λ n. absurd (n refl))))
-      (λ h₅. rw (z, z′, h₁, h₂, h₃, h₄, h₅, room false h₅) (λ n. turned-away 7)))
+      (λ h₆. rw (z, h₁, h₂, h₃, h₄, h₇, h₅, h₆) (λ n. absurd (n refl))))
+      (λ h₅. rw (z, z′, h₁, h₂, h₃, h₄, h₇, h₅, room false h₅) (λ n. turned-away 7)))
+      (λ h₇. rw (z, z′, h₁, h₂, h₃, h₄, h₇) (λ n. turned-away 31)))
       (λ h₄. rw (z, z′, h₁, h₂, h₃, h₄) (λ n. turned-away 5)))
       (λ h₃. rw (z, z′, h₁, h₂, h₃) (λ n. turned-away 4)))
       (λ h₂. rw (z, z′, h₁, h₂) (λ n. turned-away 2)))
@@ -434,7 +436,7 @@ module _ (g g′ : Grid) (G : Good g) (G′ : Good g′) (B : Both g g′) (l : 
       (unless (ltb l 4) 1
       (unless (not (isIdleQuery (q .stage))) 3
       (unless (isFinished (q .stage)) 10
-      (unless (leb (3 * q .hits) n) 11
+      (unless (leb (4 * q .hits) n) 11
       (unless (leb (q .hits) 256) 12 k)))))
 
   tests-same : (n : ℕ) (k k′ : Result Handed) → (l < 4 → q₀ .stage ≢ Idle → GoesC k k′)
@@ -448,7 +450,7 @@ module _ (g g′ : Grid) (G : Good g) (G′ : Good g′) (B : Both g g′) (l : 
       (λ h₁. by-test (isIdleQuery (q₀ .stage))
       (λ h₂. rw (z, z′, h₁, e, h₂) (refused-both 3))
       (λ h₂. by-test (isFinished (q₀ .stage))
-      (λ h₃. by-test (leb (3 * q₀ .hits) n)
+      (λ h₃. by-test (leb (4 * q₀ .hits) n)
       (λ h₄. by-test (leb (q₀ .hits) 256)
       (λ h₅. rw (z, z′, h₁, e, h₂, h₃, h₄, h₅) (f (ltb-true l 4 h₁) (not-idle (q₀ .stage) h₂)))
       (λ h₅. rw (z, z′, h₁, e, h₂, h₃, h₄, h₅) (refused-both 12)))
@@ -583,11 +585,11 @@ module _ (g g′ : Grid) (G : Good g) (G′ : Good g′) (B : Both g g′) where
   pub lock-step : (c : Call) → call c g .0 .number ≢ 8 → (call c g′ .0 ≡ call c g .0) × Both (call c g .1)
       (call c g′ .1)
   unfolding call
-  lock-step (startUpdate l k x y) n =
+  lock-step (startUpdate l k x y m) n =
       let S = subst (λ (w : List Updater). Same (Pair g g′)
-      (after (g .tables) (g .updaters) (updateStart (g .tables) (g .updaters) l k x y))
-      (after (g′ .tables) w (updateStart (g′ .tables) w l k x y))) (sym (B .updaters))
-      (start-same g g′ G G′ B l k x y n) in
+      (after (g .tables) (g .updaters) (updateStart (g .tables) (g .updaters) l k x y m))
+      (after (g′ .tables) w (updateStart (g′ .tables) w l k x y m))) (sym (B .updaters))
+      (start-same g g′ G G′ B l k x y m n) in
       (answer-same (S .number) refl refl, after-update _ _ S)
   lock-step (stepUpdate l) n =
       let m = subst (λ (w : List Updater). after (g′ .tables) w (updateStep (g′ .tables) w l) .number ≢ 12)

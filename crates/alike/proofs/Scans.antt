@@ -37,11 +37,11 @@ use Rattle.alike.proofs.Like.{stood-pos}
 
 -- the same but for the time
 pub record Resembles (s s′ : ℕ) (v v′ : Seen) : Type 0 where
-  pub time : v′ ≡ record { oid = v .oid; x = v .x; y = v .y; deleted = v .deleted; time = v′ .time }
+  pub time : v′ ≡ record { oid = v .oid; x = v .x; y = v .y; tag = v .tag; deleted = v .deleted; time = v′ .time }
   pub sees : seenBy s′ v′ ≡ seenBy s v
 
 enlist-same : (h : Hits) (l n a : ℕ) (v : Seen) (o : Option ℕ) → enlist h l n
-    (record { oid = v .oid; x = v .x; y = v .y; deleted = v .deleted; time = a }) o ≡ enlist h l n v o
+    (record { oid = v .oid; x = v .x; y = v .y; tag = v .tag; deleted = v .deleted; time = a }) o ≡ enlist h l n v o
 unfolding enlist
 enlist-same h l n a v (some i) = refl
 enlist-same h l n a v none = refl
@@ -53,23 +53,23 @@ note-same h l n {v = v} {v′ = v′} R = ap (note h l n) (R .time) ∙ ap (need
 
 -- ---- a tuple read in both
 
-module _ (k x y s s′ : ℕ) where
+module _ (k x y m s s′ : ℕ) where
   abbrev tupleOf : ℤ → Tuple
-  tupleOf z = record { oid = k; x = x; y = y; time = z }
+  tupleOf z = record { oid = k; x = x; y = y; tag = m; time = z }
 
-  current-both : (z z′ : ℤ) (a b : Bool) (n m : ℕ) → Meet (Resembles s s′)
-      (seen (tupleOf z) (pick a Never (Current n))) (seen (tupleOf z′) (pick b Never (Current m)))
+  current-both : (z z′ : ℤ) (a b : Bool) (n n′ : ℕ) → Meet (Resembles s s′)
+      (seen (tupleOf z) (pick a Never (Current n))) (seen (tupleOf z′) (pick b Never (Current n′)))
   unfolding seen pick seenBy
-  current-both z z′ true b n m = left-refused
-  current-both z z′ false true n m = right-refused
-  current-both z z′ false false n m = both-done (record { time = refl; sees = refl })
+  current-both z z′ true b n n′ = left-refused
+  current-both z z′ false true n n′ = right-refused
+  current-both z z′ false false n n′ = both-done (record { time = refl; sees = refl })
 
-  deleted-both : (z z′ : ℤ) (a b : Bool) (n m : ℕ) → ltb s′ m ≡ ltb s n → Meet (Resembles s s′)
-      (seen (tupleOf z) (pick a Never (Deleted n))) (seen (tupleOf z′) (pick b Never (Deleted m)))
+  deleted-both : (z z′ : ℤ) (a b : Bool) (n n′ : ℕ) → ltb s′ n′ ≡ ltb s n → Meet (Resembles s s′)
+      (seen (tupleOf z) (pick a Never (Deleted n))) (seen (tupleOf z′) (pick b Never (Deleted n′)))
   unfolding seen pick seenBy
-  deleted-both z z′ true b n m e = left-refused
-  deleted-both z z′ false true n m e = right-refused
-  deleted-both z z′ false false n m e = both-done (record { time = refl; sees = e })
+  deleted-both z z′ true b n n′ e = left-refused
+  deleted-both z z′ false true n n′ e = right-refused
+  deleted-both z z′ false false n n′ e = both-done (record { time = refl; sees = e })
 
   seen-both : (z z′ : ℤ) → stood z′ ≡ stood z → tells s′ z′ ≡ tells s z → Meet (Resembles s s′)
       (seen (tupleOf z) (stampOf z)) (seen (tupleOf z′) (stampOf z′))
@@ -153,8 +153,8 @@ module _ (O : ℕ → ℕ → Type 0) (t : Tables) (ts : List ℤ) (c : ℕ) (A 
         let L = A .times (slotAt b i) in
         meet-need (ltb b 512) (ltb b 512) (meet-need (ltb i 4) (ltb i 4)
         (seen-both (at (t .tuples .oid) (slotAt b i)) (at (t .tuples .x) (slotAt b i))
-        (at (t .tuples .y) (slotAt b i)) (q .stamp) s′ (stampAt (t .tuples .time) (slotAt b i))
-        (stampAt ts (slotAt b i)) (L .stood) (L .tells (q .stamp) s′ pair)))
+        (at (t .tuples .y) (slotAt b i)) (at (t .tuples .tag) (slotAt b i)) (q .stamp) s′
+        (stampAt (t .tuples .time) (slotAt b i)) (stampAt ts (slotAt b i)) (L .stood) (L .tells (q .stamp) s′ pair)))
 
     considers : (v v′ : Seen) → Resembles (q .stamp) s′ v v′ → Meet (λ (a b : Listing). a ≡ b)
         (consider (t .hits) l q v) (consider (t .hits) l q′ v′)

@@ -155,10 +155,10 @@ module _ (O : ℕ → ℕ → Type 0) (t : Tables) (ts : List ℤ) (c : ℕ) (A 
   abbrev Wrote : Tuples → Tuples → Type 0
   Wrote d d′ = Alike O (withClock (withTuples t d) (t .clock + 1)) (withClock (withTuples t′ d′) (c + 1))
 
-  overwrites : (b s k x y : ℕ) → Meet Wrote (overwrite (t .tuples) b s k x y (t .clock + 1))
-      (overwrite (t′ .tuples) b s k x y (c + 1))
+  overwrites : (b s k x y m : ℕ) → Meet Wrote (overwrite (t .tuples) b s k x y m (t .clock + 1))
+      (overwrite (t′ .tuples) b s k x y m (c + 1))
   unfolding overwrite needSlot
-  overwrites b s k x y =
+  overwrites b s k x y m =
       meet-so (ltb b 512) (ltb b 512) _ _ (λ e _. meet-so (ltb s 4) (ltb s 4) _ _
       (λ f _. meet-need (stampRange (t .clock + 1)) (stampRange (c + 1))
       (both-done (drawn _ (slotAt b s) _ _ refl refl (in-range _ _ e f)
@@ -176,7 +176,7 @@ module _ (O : ℕ → ℕ → Type 0) (t : Tables) (ts : List ℤ) (c : ℕ) (A 
       (meet-then {Q = λ (w w′ : Writing). (w′ .place ≡ w .place) × Wrote (w .tuples) (w′ .tuples)}
       (meet-then (meet-same (firstBucket (t .first) (cellOf (u .x) (u .y))))
       (λ b b′ e. rw (← e) (meet-need (ltb (at (t .count) b) 4) (ltb (at (t .count) b) 4)
-      (meet-then (overwrites b (at (t .count) b) (u .oid) (u .x) (u .y)) (λ d d′ w. both-done (refl, w))))))
+      (meet-then (overwrites b (at (t .count) b) (u .oid) (u .x) (u .y) (u .tag)) (λ d d′ w. both-done (refl, w))))))
       (λ w w′ v. both-done (record { number = refl; next = ap RaiseCount (v .0); tables = v .1 })))))
 
   -- stage 8: overwrite, or lock another cell
@@ -190,10 +190,10 @@ module _ (O : ℕ → ℕ → Type 0) (t : Tables) (ts : List ℤ) (c : ℕ) (A 
   abbrev d₁ : Placing
   d₁ = placingOf (t .cells) (t′ .tuples) c
 
-  rewrites : (p : Place) → Meet (Steps (λ (s s′ : Stage). s′ ≡ s) Placed) (rewrite d₀ p (u .oid) (u .x) (u .y))
-      (rewrite d₁ p (u .oid) (u .x) (u .y))
+  rewrites : (p : Place) → Meet (Steps (λ (s s′ : Stage). s′ ≡ s) Placed) (rewrite d₀ p (u .oid) (u .x) (u .y) (u .tag))
+      (rewrite d₁ p (u .oid) (u .x) (u .y) (u .tag))
   unfolding rewrite
-  rewrites p = meet-draw (t .clock) c _ _ (meet-then (overwrites (p .bucket) (p .slot) (u .oid) (u .x) (u .y))
+  rewrites p = meet-draw (t .clock) c _ _ (meet-then (overwrites (p .bucket) (p .slot) (u .oid) (u .x) (u .y) (u .tag))
       (λ d d′ w. both-done (record { number = refl; next = refl; tables = w })))
 
   locks-new : (k : ℕ) → Meet (Steps (λ (s s′ : Stage). s′ ≡ s) Placed) (lockNew d₀ k o) (lockNew d₁ k o)
@@ -207,7 +207,7 @@ module _ (O : ℕ → ℕ → Type 0) (t : Tables) (ts : List ℤ) (c : ℕ) (A 
       })))
 
   chooses : (q : Option Place) → Meet (Steps (λ (s s′ : Stage). s′ ≡ s) Placed)
-      (choose d₀ q (u .oid) (u .x) (u .y) o) (choose d₁ q (u .oid) (u .x) (u .y) o)
+      (choose d₀ q (u .oid) (u .x) (u .y) (u .tag) o) (choose d₁ q (u .oid) (u .x) (u .y) (u .tag) o)
   unfolding choose
   chooses none = locks-new (cellOf (u .x) (u .y))
   chooses (some p) = meet-pick (eqb (p .cell) (cellOf (u .x) (u .y))) (rewrites p) (locks-new (cellOf (u .x) (u .y)))

@@ -43,7 +43,7 @@ pub record Like (O : ℕ → ℕ → Type 0) (z z′ : ℤ) : Type 0 where
 abbrev pub retimed : Tables → List ℤ → ℕ → Tables
 retimed t ts c =
     tablesOf (t .first) (t .cells) (t .count) (t .next) (t .readers)
-    (tuplesOf (t .tuples .oid) (t .tuples .x) (t .tuples .y) ts) (t .index) (t .pool) (t .hits) c
+    (tuplesOf (t .tuples .oid) (t .tuples .x) (t .tuples .y) (t .tuples .tag) ts) (t .index) (t .pool) (t .hits) c
 
 abbrev pub stampAt : List ℤ → ℕ → ℤ
 stampAt ts i = getD ts i (pos 0)

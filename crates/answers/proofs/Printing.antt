@@ -71,18 +71,28 @@ pub collected-parts : (l k n : ℕ) → closed l 44 ++ (closed 0 44 ++ (closed k
 unfolding collectedLine row
 collected-parts l k n = refl
 
-pub entry-parts : (k x y : ℕ) → closed k 44 ++ (closed x 44 ++ closed y 10) ≡ entryLine k x y
+pub entry-parts : (k x y m : ℕ) → closed k 44 ++ (closed x 44 ++ (closed y 44 ++ closed m 10)) ≡ entryLine k x y m
 unfolding entryLine row
-entry-parts k x y = refl
+entry-parts k x y m = refl
 
--- an answer's line has at most 32 bytes, an entry's 33, the first line of a collection 64
+-- an answer's line has at most 32 bytes, an entry's 44, the first line of a collection 64
 pub answer-short : (l n : ℕ) → l < 18446744073709551616 → n < 4294967296 → length (answerLine l n) ≤ 32
 answer-short l n a b = rw (← answer-parts l n) (omega (arith, length-append (closed l 44) (closed n 10), closed-64 l 44 a, closed-32 n 10 b))
 
-pub entry-short : (k x y : ℕ) → k < 4294967296 → x < 4294967296 → y < 4294967296 → length (entryLine k x y) ≤ 33
-entry-short k x y a b c =
-    rw (← entry-parts k x y)
-    (omega (arith, length-append (closed k 44) (closed x 44 ++ closed y 10), length-append (closed x 44) (closed y 10), closed-32 k 44 a, closed-32 x 44 b, closed-32 y 10 c))
+pub entry-short : (k x y m : ℕ) → k < 4294967296 → x < 4294967296 → y < 4294967296 → m < 4294967296
+    → length (entryLine k x y m) ≤ 44
+entry-short k x y m a b c d =
+    rw (← entry-parts k x y m)
+    (omega (
+      arith,
+      length-append (closed k 44) (closed x 44 ++ (closed y 44 ++ closed m 10)),
+      length-append (closed x 44) (closed y 44 ++ closed m 10),
+      length-append (closed y 44) (closed m 10),
+      closed-32 k 44 a,
+      closed-32 x 44 b,
+      closed-32 y 44 c,
+      closed-32 m 10 d,
+    ))
 
 pub collected-short : (l k n : ℕ) → l < 18446744073709551616 → k < 4294967296 → n < 4294967296 → length (collectedLine l k n) ≤ 64
 collected-short l k n a b c =
@@ -94,7 +104,9 @@ pub entries-none : (list : List ℕ) → [] ≡ entryLines list 0
 unfolding entryLines
 entries-none list = refl
 
-pub entries-more : (list : List ℕ) (k : ℕ) → entryLines list k ++ entryLine (at list (3 * k)) (at list (3 * k + 1)) (at list (3 * k + 2)) ≡ entryLines list (k + 1)
+pub entries-more : (list : List ℕ) (k : ℕ)
+    → entryLines list k ++ entryLine (at list (4 * k)) (at list (4 * k + 1)) (at list (4 * k + 2)) (at list (4 * k + 3))
+    ≡ entryLines list (k + 1)
 unfolding entryLines
 entries-more list k = rw (add-one k)
 

@@ -22,14 +22,15 @@ answerLine line number = row (line ∷ number ∷ [])
 unfoldable pub collectedLine : ℕ → ℕ → ℕ → List ℕ
 collectedLine line steps entries = row (line ∷ 0 ∷ steps ∷ entries ∷ [])
 
--- an entry: object (document 01: carrier), x, y
-unfoldable pub entryLine : ℕ → ℕ → ℕ → List ℕ
-entryLine oid x y = row (oid ∷ x ∷ y ∷ [])
+-- an entry: object (document 01: carrier), x, y, tag (document 02: mark)
+unfoldable pub entryLine : ℕ → ℕ → ℕ → ℕ → List ℕ
+entryLine oid x y tag = row (oid ∷ x ∷ y ∷ tag ∷ [])
 
--- the lines of the first k entries of a list that has three numbers for each
+-- the lines of the first k entries of a list that has four numbers for each
 unfoldable pub entryLines : List ℕ → ℕ → List ℕ
 entryLines list zero = []
-entryLines list (suc k) = entryLines list k ++ entryLine (at list (3 * k)) (at list (3 * k + 1)) (at list (3 * k + 2))
+entryLines list (suc k) =
+    entryLines list k ++ entryLine (at list (4 * k)) (at list (4 * k + 1)) (at list (4 * k + 2)) (at list (4 * k + 3))
 
 -- all that is printed for an accepted collection
 unfoldable pub collection : ℕ → ℕ → List ℕ → ℕ → List ℕ

@@ -25,12 +25,13 @@ pub fn print_collected(out: &mut [u8], at: usize, line: u64, steps: u32, entries
     print_closed(out, c, entries as u64, b'\n')
 }
 
-// An entry: object, x, y.
-pub fn print_entry(out: &mut [u8], at: usize, oid: u32, x: u32, y: u32) -> usize
-    requires { ⌜ at + 33 ≤ length (now out) ⌝ }
-    ensures { λ r. ⌜ Printed (now (out .entry)) at (entryLine oid x y) (now (out .exit)) r ⌝ }
+// An entry: object, x, y, tag.
+pub fn print_entry(out: &mut [u8], at: usize, oid: u32, x: u32, y: u32, tag: u32) -> usize
+    requires { ⌜ at + 44 ≤ length (now out) ⌝ }
+    ensures { λ r. ⌜ Printed (now (out .entry)) at (entryLine oid x y tag) (now (out .exit)) r ⌝ }
 {
     let a = print_closed(out, at, oid as u64, b',');
     let b = print_closed(out, a, x as u64, b',');
-    print_closed(out, b, y as u64, b'\n')
+    let c = print_closed(out, b, y as u64, b',');
+    print_closed(out, c, tag as u64, b'\n')
 }

@@ -62,7 +62,7 @@ QUERY-FINISHED = 9
 abbrev pub QUERY-UNFINISHED : ℕ
 QUERY-UNFINISHED = 10
 
--- short list: fewer than three numbers per entry lent
+-- short list: fewer than four numbers per entry lent (document 01: three; the fourth is request d's)
 abbrev pub SHORT-OUTPUT : ℕ
 SHORT-OUTPUT = 11
 
@@ -77,3 +77,7 @@ UNREADABLE = 13
 -- deck in motion: a report under way, or a sweep lane that is not idle (document 02, request a)
 abbrev pub BUSY : ℕ
 BUSY = 30
+
+-- mark over 9: the load mark of a report (document 02, request d); directly after crossed corners in the order of refusals
+abbrev pub TAG-OVER : ℕ
+TAG-OVER = 31

@@ -25,6 +25,9 @@ pub const LAST_STAMP: u32 = 2147483647;
 
 pub const CLOCK_SPENT: u32 = 2147483600;
 
+// The largest tag of an object (document 02: its load mark).
+pub const LAST_TAG: u32 = 9;
+
 // The number of 'no bucket', where a cell or a bucket names the next one.
 pub const NO_BUCKET: u32 = 512;
 
@@ -65,6 +68,8 @@ pub const CORRUPT: u32 = 12;
 pub const UNREADABLE: u32 = 13;
 
 pub const BUSY: u32 = 30;
+
+pub const TAG_OVER: u32 = 31;
 
 // A change of the tables: refused as corrupt, or done.
 pub enum Change {

@@ -39,20 +39,20 @@ module _ (t : Tables) (c b n : ℕ) (fb : firstOn t c ≡ done b) (nb : at (t .c
       (rw (fb, nb, ne-eqb n 0 z, le-leb n 4 f, eq-eqb n 1 o, q, le-leb m 512 k)) p
 
   -- a tuple is written, as overwrite_tuple answers
-  module _ (k x y s : ℕ) (n< : n < 4) where
+  module _ (k x y m s : ℕ) (n< : n < 4) where
     abbrev writes : Told → Tables → Type 0
-    writes a t′ = ended (λ (w : Writing). placeList (w .place)) (λ (w : Writing). withTuples t (w .tuples)) t (writeOn t c k x y s) ≡ (a, t′)
+    writes a t′ = ended (λ (w : Writing). placeList (w .place)) (λ (w : Writing). withTuples t (w .tuples)) t (writeOn t c k x y m s) ≡ (a, t′)
 
-    pub written : (d : Tuples) → overwrite (t .tuples) b n k x y s ≡ done d → (t′ : Tables) → withTuples t d ≡ t′ → writes (says 0 (placeList (record { cell = c; bucket = b; slot = n }))) t′
+    pub written : (d : Tuples) → overwrite (t .tuples) b n k x y m s ≡ done d → (t′ : Tables) → withTuples t d ≡ t′ → writes (says 0 (placeList (record { cell = c; bucket = b; slot = n }))) t′
     unfolding write need andThen
     written d e t′ p =
-        comes (λ (w : Writing). placeList (w .place)) (λ (w : Writing). withTuples t (w .tuples)) t (writeOn t c k x y s) t′ (record { place = record { cell = c; bucket = b; slot = n }; tuples = d })
+        comes (λ (w : Writing). placeList (w .place)) (λ (w : Writing). withTuples t (w .tuples)) t (writeOn t c k x y m s) t′ (record { place = record { cell = c; bucket = b; slot = n }; tuples = d })
         (rw (fb, nb, lt-ltb n 4 n<, e)) (sym p)
 
-    pub unwritten : overwrite (t .tuples) b n k x y s ≡ corrupt → (t′ : Tables) → t′ ≡ t → writes (says 12 []) t′
+    pub unwritten : overwrite (t .tuples) b n k x y m s ≡ corrupt → (t′ : Tables) → t′ ≡ t → writes (says 12 []) t′
     unfolding write need andThen
     unwritten e t′ p =
-        refuses (λ (w : Writing). placeList (w .place)) (λ (w : Writing). withTuples t (w .tuples)) t (writeOn t c k x y s)
+        refuses (λ (w : Writing). placeList (w .place)) (λ (w : Writing). withTuples t (w .tuples)) t (writeOn t c k x y m s)
         (rw (fb, nb, lt-ltb n 4 n<, e))
         ∙ ap (λ (u : Tables). (says 12 [], u)) (sym p)
 

@@ -47,18 +47,18 @@ makeRoomOn t c = makeRoom (chainsIn t) c
 abbrev pub copyOn : Tables → ℕ → ℕ → ℕ → ℕ → Outcome Tuples
 copyOn t b s b′ s′ = copy (t .tuples) b s b′ s′
 
-abbrev pub overwriteOn : Tables → ℕ → ℕ → ℕ → ℕ → ℕ → ℕ → Outcome Tuples
-overwriteOn t b s k x y n = overwrite (t .tuples) b s k x y n
+abbrev pub overwriteOn : Tables → ℕ → ℕ → ℕ → ℕ → ℕ → ℕ → ℕ → Outcome Tuples
+overwriteOn t b s k x y m n = overwrite (t .tuples) b s k x y m n
 
-abbrev pub writeOn : Tables → ℕ → ℕ → ℕ → ℕ → ℕ → Outcome Writing
-writeOn t c k x y s = write (t .first) (t .count) (t .tuples) c k x y s
+abbrev pub writeOn : Tables → ℕ → ℕ → ℕ → ℕ → ℕ → ℕ → Outcome Writing
+writeOn t c k x y m s = write (t .first) (t .count) (t .tuples) c k x y m s
 
 -- ---- promises of the functions that hand back more than how they ended
 
 abbrev pub Lowers : ℕ → Lowered → Tables → Tables → Type 0
 Lowers c r t t′ = ended (λ (l : Lowering). unlinkedValues (l .unlinked)) (withLowering t) t (lowerOn t c) ≡ (loweredSays r, t′)
 
-abbrev pub Writes : ℕ → ℕ → ℕ → ℕ → ℕ → Written → Tables → Tables → Type 0
-Writes c k x y n r t t′ =
-    ended (λ (w : Writing). placeList (w .place)) (λ (w : Writing). withTuples t (w .tuples)) t (writeOn t c k x y n)
+abbrev pub Writes : ℕ → ℕ → ℕ → ℕ → ℕ → ℕ → Written → Tables → Tables → Type 0
+Writes c k x y m n r t t′ =
+    ended (λ (w : Writing). placeList (w .place)) (λ (w : Writing). withTuples t (w .tuples)) t (writeOn t c k x y m n)
     ≡ (writtenSays r, t′)

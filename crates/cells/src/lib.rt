@@ -236,10 +236,11 @@ pub fn overwrite_slot(
     oid: u32,
     x: u32,
     y: u32,
+    tag: u32,
     time: u32,
 ) -> Change
     requires { ⌜ (length (now words) ≡ WORDS) × (length (now times) ≡ TIMES) ⌝ }
-    ensures { λ r. ⌜ OnGrid words times (ChangesIn withTuples (λ t. overwriteOn t bucket slot oid x y time) r) ⌝ }
+    ensures { λ r. ⌜ OnGrid words times (ChangesIn withTuples (λ t. overwriteOn t bucket slot oid x y tag time) r) ⌝ }
 {
     overwrite_tuple(
         &mut words[TUPLES..INDEX],
@@ -249,6 +250,7 @@ pub fn overwrite_slot(
         oid,
         x,
         y,
+        tag,
         time,
     )
 }
@@ -261,10 +263,11 @@ pub fn write_tuple(
     oid: u32,
     x: u32,
     y: u32,
+    tag: u32,
     time: u32,
 ) -> Written
     requires { ⌜ (length (now words) ≡ WORDS) × (length (now times) ≡ TIMES) ⌝ }
-    ensures { λ r. ⌜ OnGrid words times (Writes cell oid x y time r) ⌝ }
+    ensures { λ r. ⌜ OnGrid words times (Writes cell oid x y tag time r) ⌝ }
 {
     let found = first_bucket(words, cell);
     let Bucket::At(bucket) = found else {
@@ -274,7 +277,7 @@ pub fn write_tuple(
     if slot >= BUCKET_SLOTS {
         return Written::Corrupt;
     }
-    let done = overwrite_slot(words, times, bucket, slot, oid, x, y, time);
+    let done = overwrite_slot(words, times, bucket, slot, oid, x, y, tag, time);
     match done {
         Change::Corrupt => Written::Corrupt,
         Change::Done => Written::At(Place { cell, bucket, slot }),

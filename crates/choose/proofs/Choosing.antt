@@ -76,28 +76,28 @@ locks-new w ts w# c owner s v v# e =
 
 -- ---- the tuple overwritten
 
-module _ (t : Tables) (p : Place) (k x y n : ℕ) (n= : t .clock ≡ n) where
-  pub rewrite-late : 2147483647 ≤ n → turned t (rewriteOn t p k x y) ≡ (said 12 none, t)
+module _ (t : Tables) (p : Place) (k x y m n : ℕ) (n= : t .clock ≡ n) where
+  pub rewrite-late : 2147483647 ≤ n → turned t (rewriteOn t p k x y m) ≡ (said 12 none, t)
   unfolding rewriteOn rewrite draw need
-  rewrite-late h = halts (putPlacing t) t (rewrite (placingIn t) p k x y) t (rw (n=, le-ltb n 2147483647 h)) refl
+  rewrite-late h = halts (putPlacing t) t (rewrite (placingIn t) p k x y m) t (rw (n=, le-ltb n 2147483647 h)) refl
 
   module _ (n< : n < 2147483647) (u : Tables) where
-    rewrite-no : overwriteOn t (p .bucket) (p .slot) k x y (n + 1) ≡ corrupt → u ≡ t → turned t (rewriteOn t p k x y) ≡ (said 12 none, u)
+    rewrite-no : overwriteOn t (p .bucket) (p .slot) k x y m (n + 1) ≡ corrupt → u ≡ t → turned t (rewriteOn t p k x y m) ≡ (said 12 none, u)
     unfolding rewriteOn rewrite draw need andThen
-    rewrite-no e q = halts (putPlacing t) t (rewrite (placingIn t) p k x y) u (rw (n=, lt-ltb n 2147483647 n<, e)) q
+    rewrite-no e q = halts (putPlacing t) t (rewrite (placingIn t) p k x y m) u (rw (n=, lt-ltb n 2147483647 n<, e)) q
 
-    rewrite-yes : (d : Tuples) → overwriteOn t (p .bucket) (p .slot) k x y (n + 1) ≡ done d → withTuples t d ≡ u → (t′ : Tables) → t′ ≡ withClock u (n + 1) → turned t (rewriteOn t p k x y) ≡ (said 0 (some ReleaseObject), t′)
+    rewrite-yes : (d : Tuples) → overwriteOn t (p .bucket) (p .slot) k x y m (n + 1) ≡ done d → withTuples t d ≡ u → (t′ : Tables) → t′ ≡ withClock u (n + 1) → turned t (rewriteOn t p k x y m) ≡ (said 0 (some ReleaseObject), t′)
     unfolding rewriteOn rewrite draw need andThen
     rewrite-yes d e q t′ r =
-        moves (putPlacing t) t (rewrite (placingIn t) p k x y) t′ 0 ReleaseObject (placingOf (t .cells) d (n + 1))
+        moves (putPlacing t) t (rewrite (placingIn t) p k x y m) t′ 0 ReleaseObject (placingOf (t .cells) d (n + 1))
         (rw (n=, lt-ltb n 2147483647 n<, e)) (r ∙ ap (λ (v : Tables). withClock v (n + 1)) (sym q))
 
     -- as overwrite_slot answers; u: the tables when the tuple is written, and the clock is not yet
-    pub rewrite-lost : ended nothing (withTuples t) t (overwriteOn t (p .bucket) (p .slot) k x y (n + 1)) ≡ (says 12 [], u) → turned t (rewriteOn t p k x y) ≡ (said 12 none, u)
-    rewrite-lost e = let d = ended-corrupt nothing (withTuples t) t u (overwriteOn t (p .bucket) (p .slot) k x y (n + 1)) e in rewrite-no (d .0) (d .1)
+    pub rewrite-lost : ended nothing (withTuples t) t (overwriteOn t (p .bucket) (p .slot) k x y m (n + 1)) ≡ (says 12 [], u) → turned t (rewriteOn t p k x y m) ≡ (said 12 none, u)
+    rewrite-lost e = let d = ended-corrupt nothing (withTuples t) t u (overwriteOn t (p .bucket) (p .slot) k x y m (n + 1)) e in rewrite-no (d .0) (d .1)
 
-    pub rewrite-done : ended nothing (withTuples t) t (overwriteOn t (p .bucket) (p .slot) k x y (n + 1)) ≡ (says 0 [], u) → (t′ : Tables) → t′ ≡ withClock u (n + 1) → turned t (rewriteOn t p k x y) ≡ (said 0 (some ReleaseObject), t′)
-    rewrite-done e t′ r = let d = ended-done nothing (withTuples t) t u (overwriteOn t (p .bucket) (p .slot) k x y (n + 1)) e in rewrite-yes (d .0) (d .1) (d .3) t′ r
+    pub rewrite-done : ended nothing (withTuples t) t (overwriteOn t (p .bucket) (p .slot) k x y m (n + 1)) ≡ (says 0 [], u) → (t′ : Tables) → t′ ≡ withClock u (n + 1) → turned t (rewriteOn t p k x y m) ≡ (said 0 (some ReleaseObject), t′)
+    rewrite-done e t′ r = let d = ended-done nothing (withTuples t) t u (overwriteOn t (p .bucket) (p .slot) k x y m (n + 1)) e in rewrite-yes (d .0) (d .1) (d .3) t′ r
 
 -- ---- the stage
 
@@ -107,28 +107,28 @@ apart true (Found i) f k = refl
 apart true (Empty i) f k = refl
 apart false s f k = refl
 
-module _ (t : Tables) (k x y owner : ℕ) where
+module _ (t : Tables) (k x y m owner : ℕ) where
   -- the place, then the choice
-  chosen : {o : Outcome (Option Place)} → hereOn t k x y ≡ o → stage8On t k x y owner ≡ lift (putPlacing t) (andThen o (λ p. choose (placingIn t) p k x y owner))
+  chosen : {o : Outcome (Option Place)} → hereOn t k x y ≡ o → stage8On t k x y m owner ≡ lift (putPlacing t) (andThen o (λ p. choose (placingIn t) p k x y m owner))
   unfolding stage8On stage8 hereOn
-  chosen e = ap (lift (putPlacing t)) (apart (onGrid x y) (sought (t .index .oid) k) (readPlace (t .index .current)) (λ p. choose (placingIn t) p k x y owner) ∙ rw e)
+  chosen e = ap (lift (putPlacing t)) (apart (onGrid x y) (sought (t .index .oid) k) (readPlace (t .index .current)) (λ p. choose (placingIn t) p k x y m owner) ∙ rw e)
 
-  pub choose-corrupt : hereOn t k x y ≡ corrupt → turned t (stage8On t k x y owner) ≡ (said 12 none, t)
+  pub choose-corrupt : hereOn t k x y ≡ corrupt → turned t (stage8On t k x y m owner) ≡ (said 12 none, t)
   unfolding andThen lift turnTells turnLeaves
   choose-corrupt e = ap (turned t) (chosen e)
 
   module _ {c : ℕ} (q : c ≡ cellOf x y) (s : Said Stage) (t′ : Tables) where
     -- the object stands nowhere
-    pub choose-nowhere : hereOn t k x y ≡ done none → turned t (lockNewOn t c owner) ≡ (s, t′) → turned t (stage8On t k x y owner) ≡ (s, t′)
+    pub choose-nowhere : hereOn t k x y ≡ done none → turned t (lockNewOn t c owner) ≡ (s, t′) → turned t (stage8On t k x y m owner) ≡ (s, t′)
     unfolding andThen choose lockNewOn
     choose-nowhere e f = ap (turned t) (chosen e ∙ rw (← q)) ∙ f
 
     -- it stands in another cell
-    pub choose-other : (p : Place) → hereOn t k x y ≡ done (some p) → p .cell ≢ c → turned t (lockNewOn t c owner) ≡ (s, t′) → turned t (stage8On t k x y owner) ≡ (s, t′)
+    pub choose-other : (p : Place) → hereOn t k x y ≡ done (some p) → p .cell ≢ c → turned t (lockNewOn t c owner) ≡ (s, t′) → turned t (stage8On t k x y m owner) ≡ (s, t′)
     unfolding andThen choose pick lockNewOn
     choose-other p e n f = ap (turned t) (chosen e ∙ rw (← q, ne-eqb (p .cell) c n)) ∙ f
 
     -- it stays in its cell
-    pub choose-same : (p : Place) → hereOn t k x y ≡ done (some p) → p .cell ≡ c → turned t (rewriteOn t p k x y) ≡ (s, t′) → turned t (stage8On t k x y owner) ≡ (s, t′)
+    pub choose-same : (p : Place) → hereOn t k x y ≡ done (some p) → p .cell ≡ c → turned t (rewriteOn t p k x y m) ≡ (s, t′) → turned t (stage8On t k x y m owner) ≡ (s, t′)
     unfolding andThen choose pick rewriteOn
     choose-same p e n f = ap (turned t) (chosen e ∙ rw (← q, eq-eqb (p .cell) c n)) ∙ f

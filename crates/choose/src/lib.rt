@@ -39,9 +39,10 @@ fn rewrite_tuple(
     oid: u32,
     x: u32,
     y: u32,
+    tag: u32,
 ) -> Turn
     requires { ⌜ (length (now words) ≡ WORDS) × (length (now times) ≡ TIMES) ⌝ }
-    ensures { λ r. ⌜ OnGrid words times (Turns (λ t. rewriteOn t place oid x y) r) ⌝ }
+    ensures { λ r. ⌜ OnGrid words times (Turns (λ t. rewriteOn t place oid x y tag) r) ⌝ }
 {
     let last = words[CLOCK];
     if last >= LAST_STAMP {
@@ -50,7 +51,7 @@ fn rewrite_tuple(
     let time = last + 1;
     let b = place.bucket;
     let s = place.slot;
-    let done = overwrite_slot(words, times, b, s, oid, x, y, time);
+    let done = overwrite_slot(words, times, b, s, oid, x, y, tag, time);
     if let Change::Corrupt = done {
         return Turn::Corrupt;
     }
@@ -93,10 +94,11 @@ pub fn choose_cell(
     oid: u32,
     x: u32,
     y: u32,
+    tag: u32,
     owner: u32,
 ) -> Turn
     requires { ⌜ (length (now words) ≡ WORDS) × (length (now times) ≡ TIMES) ⌝ }
-    ensures { λ r. ⌜ OnGrid words times (Turns (λ t. stage8On t oid x y owner) r) ⌝ }
+    ensures { λ r. ⌜ OnGrid words times (Turns (λ t. stage8On t oid x y tag owner) r) ⌝ }
 {
     let here = current_place(words, oid, x, y);
     let cell = cell_of(x, y);
@@ -107,7 +109,7 @@ pub fn choose_cell(
             if place.cell != cell {
                 return lock_new(words, cell, owner);
             }
-            rewrite_tuple(words, times, place, oid, x, y)
+            rewrite_tuple(words, times, place, oid, x, y, tag)
         }
     }
 }

@@ -15,8 +15,8 @@ sets-put vs l a n e h =
     ∙ ap (λ (r : List ℕ). take a l ++ (vs ++ r)) (sym (drop-drop (length vs) a l))
     ∙ ap (λ (k : ℕ). take a l ++ (vs ++ drop k (drop a l))) e
 
-pub nine : (l : List ℕ) (a v0 v1 v2 v3 v4 v5 v6 v7 v8 : ℕ) → set (set (set (set (set (set (set (set (set l a v0) (a + 1) v1) (a + 2) v2) (a + 3) v3) (a + 4) v4) (a + 5) v5) (a + 6) v6) (a + 7) v7) (a + 8) v8 ≡ sets l a (v0 ∷ v1 ∷ v2 ∷ v3 ∷ v4 ∷ v5 ∷ v6 ∷ v7 ∷ v8 ∷ [])
-nine l a v0 v1 v2 v3 v4 v5 v6 v7 v8 =
+pub ten : (l : List ℕ) (a v0 v1 v2 v3 v4 v5 v6 v7 v8 v9 : ℕ) → set (set (set (set (set (set (set (set (set (set l a v0) (a + 1) v1) (a + 2) v2) (a + 3) v3) (a + 4) v4) (a + 5) v5) (a + 6) v6) (a + 7) v7) (a + 8) v8) (a + 9) v9 ≡ sets l a (v0 ∷ v1 ∷ v2 ∷ v3 ∷ v4 ∷ v5 ∷ v6 ∷ v7 ∷ v8 ∷ v9 ∷ [])
+ten l a v0 v1 v2 v3 v4 v5 v6 v7 v8 v9 =
     let e1 : a + 1 ≡ suc a = omega arith in
     let e2 : a + 2 ≡ suc (suc a) = omega arith in
     let e3 : a + 3 ≡ suc (suc (suc a)) = omega arith in
@@ -25,7 +25,8 @@ nine l a v0 v1 v2 v3 v4 v5 v6 v7 v8 =
     let e6 : a + 6 ≡ suc (suc (suc (suc (suc (suc a))))) = omega arith in
     let e7 : a + 7 ≡ suc (suc (suc (suc (suc (suc (suc a)))))) = omega arith in
     let e8 : a + 8 ≡ suc (suc (suc (suc (suc (suc (suc (suc a))))))) = omega arith in
-    rw (e1, e2, e3, e4, e5, e6, e7, e8) refl
+    let e9 : a + 9 ≡ suc (suc (suc (suc (suc (suc (suc (suc (suc a)))))))) = omega arith in
+    rw (e1, e2, e3, e4, e5, e6, e7, e8, e9) refl
 
 pub eleven : (l : List ℕ) (a v0 v1 v2 v3 v4 v5 v6 v7 v8 v9 v10 : ℕ) → set (set (set (set (set (set (set (set (set (set (set l a v0) (a + 1) v1) (a + 2) v2) (a + 3) v3) (a + 4) v4) (a + 5) v5) (a + 6) v6) (a + 7) v7) (a + 8) v8) (a + 9) v9) (a + 10) v10 ≡ sets l a (v0 ∷ v1 ∷ v2 ∷ v3 ∷ v4 ∷ v5 ∷ v6 ∷ v7 ∷ v8 ∷ v9 ∷ v10 ∷ [])
 eleven l a v0 v1 v2 v3 v4 v5 v6 v7 v8 v9 v10 =

@@ -22,7 +22,7 @@ use Rattle.stage.specs.declared.Updater.{Updater}
 use Rattle.updates.specs.Update.{idleUpdater, withStage}
 use Rattle.codes.specs.Updaters.{placeOf, codeStage, stageOf, codeUpdater, decodeUpdater, startedUpdater, stageIn, updaterIn, withUpdater}
 use Rattle.codes.specs.declared.update_lane.StageCode.{StageCode}
-use Rattle.codes.proofs.Stores.{sets-put, nine}
+use Rattle.codes.proofs.Stores.{sets-put, ten}
 
 pub stage-back : (s : Stage) → stageOf (codeStage s .stage) (codeStage s .place) (codeStage s .moved) (codeStage s .bucket) ≡ s
 unfolding codeStage stageOf pick
@@ -67,9 +67,9 @@ decode-code u = ap (withStage u) (stage-back (u .stage))
 pub code-decode : (u : Updater) (v : List ℕ) → v ≡ codeUpdater u → codeUpdater (decodeUpdater v) ≡ v
 code-decode u v e = ap codeUpdater (ap decodeUpdater e ∙ decode-code u) ∙ sym e
 
-nine-long : (u : Updater) → length (codeUpdater u) ≡ 9
+ten-long : (u : Updater) → length (codeUpdater u) ≡ 10
 unfolding codeUpdater
-nine-long u = refl
+ten-long u = refl
 
 -- a number that names no stage
 pub stage-else : (n : ℕ) (p : Place) (m b : ℕ) → n ≢ 1 → n ≢ 2 → n ≢ 3 → n ≢ 4 → n ≢ 5 → n ≢ 6 → n ≢ 7 → n ≢ 8 → n ≢ 9 → n ≢ 10 → n ≢ 11 → n ≢ 12 → n ≢ 13 → n ≢ 14 → stageOf n p m b ≡ Idle
@@ -79,65 +79,66 @@ stage-else n p m b h1 h2 h3 h4 h5 h6 h7 h8 h9 h10 h11 h12 h13 h14 =
 
 -- ---- numbers read and stored
 
-abbrev updaterOf : ℕ → ℕ → ℕ → Stage → Updater
-updaterOf k x y s = record { oid = k; x = x; y = y; stage = s }
+abbrev updaterOf : ℕ → ℕ → ℕ → ℕ → Stage → Updater
+updaterOf k x y m s = record { oid = k; x = x; y = y; tag = m; stage = s }
 
 -- the numbers of a lane that begin at a, read one by one
 pub load-lane : (ns : List ℕ) (a : ℕ) (s : Stage)
-    → s ≡ stageOf (at ns (a + 3)) (placeOf (at ns (a + 4)) (at ns (a + 5)) (at ns (a + 6))) (at ns (a + 7)) (at ns (a + 8))
-    → updaterOf (at ns a) (at ns (a + 1)) (at ns (a + 2)) s ≡ decodeUpdater (part a 9 ns)
+    → s ≡ stageOf (at ns (a + 4)) (placeOf (at ns (a + 5)) (at ns (a + 6)) (at ns (a + 7))) (at ns (a + 8)) (at ns (a + 9))
+    → updaterOf (at ns a) (at ns (a + 1)) (at ns (a + 2)) (at ns (a + 3)) s ≡ decodeUpdater (part a 10 ns)
 unfolding decodeUpdater
 load-lane ns a s e =
-    let p0 : at (part a 9 ns) 0 ≡ at ns a = part-at ns a 9 0 0 (omega arith) ∙ ap (at ns) (omega arith) in
-    let p1 : at (part a 9 ns) 1 ≡ at ns (a + 1) = part-at ns a 9 1 0 (omega arith) in
-    let p2 : at (part a 9 ns) 2 ≡ at ns (a + 2) = part-at ns a 9 2 0 (omega arith) in
-    let p3 : at (part a 9 ns) 3 ≡ at ns (a + 3) = part-at ns a 9 3 0 (omega arith) in
-    let p4 : at (part a 9 ns) 4 ≡ at ns (a + 4) = part-at ns a 9 4 0 (omega arith) in
-    let p5 : at (part a 9 ns) 5 ≡ at ns (a + 5) = part-at ns a 9 5 0 (omega arith) in
-    let p6 : at (part a 9 ns) 6 ≡ at ns (a + 6) = part-at ns a 9 6 0 (omega arith) in
-    let p7 : at (part a 9 ns) 7 ≡ at ns (a + 7) = part-at ns a 9 7 0 (omega arith) in
-    let p8 : at (part a 9 ns) 8 ≡ at ns (a + 8) = part-at ns a 9 8 0 (omega arith) in
-    ap (updaterOf (at ns a) (at ns (a + 1)) (at ns (a + 2))) e
-    ∙ sym (λ j. updaterOf (p0 j) (p1 j) (p2 j) (stageOf (p3 j) (placeOf (p4 j) (p5 j) (p6 j)) (p7 j) (p8 j)))
+    let p0 : at (part a 10 ns) 0 ≡ at ns a = part-at ns a 10 0 0 (omega arith) ∙ ap (at ns) (omega arith) in
+    let p1 : at (part a 10 ns) 1 ≡ at ns (a + 1) = part-at ns a 10 1 0 (omega arith) in
+    let p2 : at (part a 10 ns) 2 ≡ at ns (a + 2) = part-at ns a 10 2 0 (omega arith) in
+    let p3 : at (part a 10 ns) 3 ≡ at ns (a + 3) = part-at ns a 10 3 0 (omega arith) in
+    let p4 : at (part a 10 ns) 4 ≡ at ns (a + 4) = part-at ns a 10 4 0 (omega arith) in
+    let p5 : at (part a 10 ns) 5 ≡ at ns (a + 5) = part-at ns a 10 5 0 (omega arith) in
+    let p6 : at (part a 10 ns) 6 ≡ at ns (a + 6) = part-at ns a 10 6 0 (omega arith) in
+    let p7 : at (part a 10 ns) 7 ≡ at ns (a + 7) = part-at ns a 10 7 0 (omega arith) in
+    let p8 : at (part a 10 ns) 8 ≡ at ns (a + 8) = part-at ns a 10 8 0 (omega arith) in
+    let p9 : at (part a 10 ns) 9 ≡ at ns (a + 9) = part-at ns a 10 9 0 (omega arith) in
+    ap (updaterOf (at ns a) (at ns (a + 1)) (at ns (a + 2)) (at ns (a + 3))) e
+    ∙ sym (λ j. updaterOf (p0 j) (p1 j) (p2 j) (p3 j) (stageOf (p4 j) (placeOf (p5 j) (p6 j) (p7 j)) (p8 j) (p9 j)))
 
 module _ (ns : List ℕ) (a : ℕ) where
   -- stored one behind the other
   pub store-lane : (u : Updater) (c : StageCode) → c ≡ codeStage (u .stage)
-      → set (set (set (set (set (set (set (set (set ns a (u .oid)) (a + 1) (u .x)) (a + 2) (u .y)) (a + 3) (c .stage)) (a + 4) (c .place .cell)) (a + 5) (c .place .bucket)) (a + 6) (c .place .slot)) (a + 7) (c .moved)) (a + 8) (c .bucket)
+      → set (set (set (set (set (set (set (set (set (set ns a (u .oid)) (a + 1) (u .x)) (a + 2) (u .y)) (a + 3) (u .tag)) (a + 4) (c .stage)) (a + 5) (c .place .cell)) (a + 6) (c .place .bucket)) (a + 7) (c .place .slot)) (a + 8) (c .moved)) (a + 9) (c .bucket)
       ≡ sets ns a (codeUpdater u)
   unfolding codeUpdater
   store-lane u c e =
-      nine ns a _ _ _ _ _ _ _ _ _
-      ∙ ap (λ (d : StageCode). sets ns a (u .oid ∷ u .x ∷ u .y ∷ d .stage ∷ d .place .cell ∷ d .place .bucket ∷ d .place .slot ∷ d .moved ∷ d .bucket ∷ [])) e
+      ten ns a _ _ _ _ _ _ _ _ _ _
+      ∙ ap (λ (d : StageCode). sets ns a (u .oid ∷ u .x ∷ u .y ∷ u .tag ∷ d .stage ∷ d .place .cell ∷ d .place .bucket ∷ d .place .slot ∷ d .moved ∷ d .bucket ∷ [])) e
 
   -- an update that begins
-  pub store-first : (k x y : ℕ)
-      → set (set (set (set (set (set (set (set (set ns a k) (a + 1) x) (a + 2) y) (a + 3) 1) (a + 4) 0) (a + 5) 0) (a + 6) 0) (a + 7) 0) (a + 8) 0
-      ≡ sets ns a (codeUpdater (startedUpdater k x y))
+  pub store-first : (k x y m : ℕ)
+      → set (set (set (set (set (set (set (set (set (set ns a k) (a + 1) x) (a + 2) y) (a + 3) m) (a + 4) 1) (a + 5) 0) (a + 6) 0) (a + 7) 0) (a + 8) 0) (a + 9) 0
+      ≡ sets ns a (codeUpdater (startedUpdater k x y m))
   unfolding codeUpdater codeStage
-  store-first k x y = nine ns a _ _ _ _ _ _ _ _ _
+  store-first k x y m = ten ns a _ _ _ _ _ _ _ _ _ _
 
 -- ---- in a lane
 
-module _ (ns : List ℕ) (l : ℕ) (ns# : length ns ≡ 72) (l< : l < 8) (u : Updater) where
-  replaced : withUpdater ns l u ≡ put (9 * l) 9 (codeUpdater u) ns
-  replaced = sets-put (codeUpdater u) ns (9 * l) 9 (nine-long u) (omega arith)
+module _ (ns : List ℕ) (l : ℕ) (ns# : length ns ≡ 80) (l< : l < 8) (u : Updater) where
+  replaced : withUpdater ns l u ≡ put (10 * l) 10 (codeUpdater u) ns
+  replaced = sets-put (codeUpdater u) ns (10 * l) 10 (ten-long u) (omega arith)
 
   -- what is stored there is read there
   pub updater-same : updaterIn (withUpdater ns l u) l ≡ u
   updater-same =
       ap (λ (ms : List ℕ). updaterIn ms l) replaced
-      ∙ ap decodeUpdater (part-same ns (9 * l) 9 (omega arith) (codeUpdater u) (nine-long u)) ∙ decode-code u
+      ∙ ap decodeUpdater (part-same ns (10 * l) 10 (omega arith) (codeUpdater u) (ten-long u)) ∙ decode-code u
 
   -- and every other lane is as it was
   pub updater-below : (m : ℕ) → m < l → updaterIn (withUpdater ns l u) m ≡ updaterIn ns m
   updater-below m h =
-      ap (λ (ms : List ℕ). updaterIn ms m) replaced ∙ ap decodeUpdater (part-before ns (9 * l) 9 (omega arith) (codeUpdater u) (9 * m) 9 (omega arith))
+      ap (λ (ms : List ℕ). updaterIn ms m) replaced ∙ ap decodeUpdater (part-before ns (10 * l) 10 (omega arith) (codeUpdater u) (10 * m) 10 (omega arith))
 
   pub updater-above : (m : ℕ) → l < m → updaterIn (withUpdater ns l u) m ≡ updaterIn ns m
   updater-above m h =
       ap (λ (ms : List ℕ). updaterIn ms m) replaced
-      ∙ ap decodeUpdater (part-after ns (9 * l) 9 (omega arith) (codeUpdater u) (nine-long u) (9 * m) 9 (omega arith))
+      ∙ ap decodeUpdater (part-after ns (10 * l) 10 (omega arith) (codeUpdater u) (ten-long u) (10 * m) 10 (omega arith))
 
 -- ---- what the number of a stage tells
 
@@ -161,20 +162,20 @@ seen (suc (suc (suc (suc (suc (suc (suc (suc (suc (suc (suc (suc (suc (suc zero)
 seen (suc (suc (suc (suc (suc (suc (suc (suc (suc (suc (suc (suc (suc (suc (suc n))))))))))))))) p m b h = absurd (omega arith)
 
 module _ (ns : List ℕ) (l : ℕ) where
-  stage-read : at (part (9 * l) 9 ns) 3 ≡ stageIn ns l
-  stage-read = part-at ns (9 * l) 9 3 0 (omega arith)
+  stage-read : at (part (10 * l) 10 ns) 4 ≡ stageIn ns l
+  stage-read = part-at ns (10 * l) 10 4 0 (omega arith)
 
   -- the number tells whether the lane is idle
   pub lane-seen : stageIn ns l ≤ 14 → isIdle (updaterIn ns l .stage) ≡ eqb (stageIn ns l) 0
   unfolding decodeUpdater
   lane-seen h =
-      let v = part (9 * l) 9 ns in
-      let p = placeOf (at v 4) (at v 5) (at v 6) in
-      ap (λ (n : ℕ). isIdle (stageOf n p (at v 7) (at v 8))) stage-read ∙ seen (stageIn ns l) p (at v 7) (at v 8) h
+      let v = part (10 * l) 10 ns in
+      let p = placeOf (at v 5) (at v 6) (at v 7) in
+      ap (λ (n : ℕ). isIdle (stageOf n p (at v 8) (at v 9))) stage-read ∙ seen (stageIn ns l) p (at v 8) (at v 9) h
 
 -- ---- every number 0
 
-fresh-part : (l : ℕ) → l < 8 → part (9 * l) 9 (replicate {A = ℕ} 72 0) ≡ replicate {A = ℕ} 9 0
+fresh-part : (l : ℕ) → l < 8 → part (10 * l) 10 (replicate {A = ℕ} 80 0) ≡ replicate {A = ℕ} 10 0
 fresh-part zero h = refl
 fresh-part (suc zero) h = refl
 fresh-part (suc (suc zero)) h = refl
@@ -186,6 +187,6 @@ fresh-part (suc (suc (suc (suc (suc (suc (suc zero))))))) h = refl
 fresh-part (suc (suc (suc (suc (suc (suc (suc (suc n)))))))) h = absurd (omega arith)
 
 -- is the code of an idle lane
-pub updater-fresh : (l : ℕ) → l < 8 → updaterIn (replicate 72 0) l ≡ idleUpdater
+pub updater-fresh : (l : ℕ) → l < 8 → updaterIn (replicate 80 0) l ≡ idleUpdater
 unfolding decodeUpdater stageOf pick
 updater-fresh l h = ap decodeUpdater (fresh-part l h)

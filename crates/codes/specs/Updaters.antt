@@ -1,4 +1,4 @@
--- A LANE OF AN UPDATE IN NINE NUMBERS: object, x, y, number of the stage (0 idle, 1 to 14 as document 01 counts them), cell, bucket and slot of the place,
+-- A LANE OF AN UPDATE IN TEN NUMBERS: object, x, y, tag, number of the stage (0 idle, 1 to 14 as document 01 counts them), cell, bucket and slot of the place,
 -- the object that moves, the unlinked bucket. What a stage does not carry is 0. That coding and decoding are inverse is proofs/Updaters.antt.
 use mathlib.Core.Bool.{Bool}
 use mathlib.Core.List.{List, [], _∷_}
@@ -16,10 +16,10 @@ use Rattle.codes.specs.declared.update_lane.StageCode.{StageCode}
 
 -- how many numbers a lane is, where its stage is, and the number of the last stage
 abbrev pub UPDATER-NUMBERS : ℕ
-UPDATER-NUMBERS = 9
+UPDATER-NUMBERS = 10
 
 abbrev pub STAGE-AT : ℕ
-STAGE-AT = 3
+STAGE-AT = 4
 
 abbrev pub LAST-STAGE : ℕ
 LAST-STAGE = 14
@@ -72,15 +72,21 @@ stageOf n p m b =
 unfoldable pub codeUpdater : Updater → List ℕ
 codeUpdater u =
     let c = codeStage (u .stage) in
-    u .oid ∷ u .x ∷ u .y ∷ c .stage ∷ c .place .cell ∷ c .place .bucket ∷ c .place .slot ∷ c .moved ∷ c .bucket ∷ []
+    u .oid ∷ u .x ∷ u .y ∷ u .tag ∷ c .stage ∷ c .place .cell ∷ c .place .bucket ∷ c .place .slot ∷ c .moved ∷ c .bucket ∷ []
 
 unfoldable pub decodeUpdater : List ℕ → Updater
 decodeUpdater v =
-    record { oid = at v 0; x = at v 1; y = at v 2; stage = stageOf (at v 3) (placeOf (at v 4) (at v 5) (at v 6)) (at v 7) (at v 8) }
+    record {
+      oid = at v 0;
+      x = at v 1;
+      y = at v 2;
+      tag = at v 3;
+      stage = stageOf (at v 4) (placeOf (at v 5) (at v 6) (at v 7)) (at v 8) (at v 9);
+    }
 
--- an update that was just started: object k, to stand at (x, y)
-abbrev pub startedUpdater : ℕ → ℕ → ℕ → Updater
-startedUpdater k x y = record { oid = k; x = x; y = y; stage = TakeObject }
+-- an update that was just started: object k, to stand at (x, y) with tag m
+abbrev pub startedUpdater : ℕ → ℕ → ℕ → ℕ → Updater
+startedUpdater k x y m = record { oid = k; x = x; y = y; tag = m; stage = TakeObject }
 
 -- ---- eight lanes, one behind the other
 

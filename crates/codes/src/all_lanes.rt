@@ -10,7 +10,7 @@ use crate::update_lane::STAGE_AT;
 use crate::update_lane::UPDATER_NUMBERS;
 
 // No number of an update's stage is above the last one.
-pub fn stages_to(lanes: &[u32; 72], last: u32) -> bool
+pub fn stages_to(lanes: &[u32; 80], last: u32) -> bool
     ensures { λ r. ⌜ r ≡ stagesTo (old lanes) last ⌝ }
 {
     let mut i: usize = 0;
@@ -38,7 +38,7 @@ pub fn scans_to(lanes: &[u32; 44], last: u32) -> bool
 }
 
 // 0 if every lane is idle, else 1.
-pub fn moving(updaters: &[u32; 72], queries: &[u32; 44]) -> u32
+pub fn moving(updaters: &[u32; 80], queries: &[u32; 44]) -> u32
     ensures { λ r. ⌜ eqb r 0 ≡ (stagesTo (old updaters) 0 && scansTo (old queries) 0) ⌝ }
 {
     if !stages_to(updaters, 0) {

@@ -1,4 +1,4 @@
-// A lane of an update in nine numbers: object, x, y, number of the stage (0 idle, 1 to 14 as document 01 counts them), cell, bucket and slot of the place,
+// A lane of an update in ten numbers: object, x, y, tag, number of the stage (0 idle, 1 to 14 as document 01 counts them), cell, bucket and slot of the place,
 // the object that moves, the unlinked bucket. What a stage does not carry is 0.
 ghost use mathlib.Core.Path.{_≡_};
 ghost use Prim.Native.Nat.{_≤_};
@@ -13,9 +13,9 @@ use stage::Stage;
 use stage::Updater;
 
 // How many numbers a lane is, where its stage is, and the number of the last stage.
-pub const UPDATER_NUMBERS: usize = 9;
+pub const UPDATER_NUMBERS: usize = 10;
 
-pub const STAGE_AT: usize = 3;
+pub const STAGE_AT: usize = 4;
 
 pub const LAST_STAGE: u32 = 14;
 
@@ -119,6 +119,7 @@ pub fn seen_updater(stage: u32) -> Updater
             oid: 0,
             x: 0,
             y: 0,
+            tag: 0,
             stage: Stage::Idle,
         };
     }
@@ -126,32 +127,34 @@ pub fn seen_updater(stage: u32) -> Updater
         oid: 0,
         x: 0,
         y: 0,
+        tag: 0,
         stage: Stage::TakeObject,
     }
 }
 
 // The update whose numbers begin there.
-pub fn load_updater(lanes: &[u32; 72], at: usize) -> Updater
-    requires { ⌜ at ≤ 63 ⌝ }
+pub fn load_updater(lanes: &[u32; 80], at: usize) -> Updater
+    requires { ⌜ at ≤ 70 ⌝ }
     ensures { λ r. ⌜ r ≡ decodeUpdater (part at UPDATER-NUMBERS (old lanes)) ⌝ }
 {
     let place = Place {
-        cell: lanes[at + 4],
-        bucket: lanes[at + 5],
-        slot: lanes[at + 6],
+        cell: lanes[at + 5],
+        bucket: lanes[at + 6],
+        slot: lanes[at + 7],
     };
-    let stage = stage_of(lanes[at + STAGE_AT], place, lanes[at + 7], lanes[at + 8]);
+    let stage = stage_of(lanes[at + STAGE_AT], place, lanes[at + 8], lanes[at + 9]);
     Updater {
         oid: lanes[at],
         x: lanes[at + 1],
         y: lanes[at + 2],
+        tag: lanes[at + 3],
         stage,
     }
 }
 
 // Stores the numbers of an update from there on.
-pub fn store_updater(lanes: &mut [u32; 72], at: usize, u: Updater)
-    requires { ⌜ at ≤ 63 ⌝ }
+pub fn store_updater(lanes: &mut [u32; 80], at: usize, u: Updater)
+    requires { ⌜ at ≤ 70 ⌝ }
     ensures { λ r. ⌜ new lanes ≡ sets (old lanes) at (codeUpdater u) ⌝ }
 {
     let s = u.stage;
@@ -160,26 +163,28 @@ pub fn store_updater(lanes: &mut [u32; 72], at: usize, u: Updater)
     lanes[at] = u.oid;
     lanes[at + 1] = u.x;
     lanes[at + 2] = u.y;
+    lanes[at + 3] = u.tag;
     lanes[at + STAGE_AT] = code.stage;
-    lanes[at + 4] = place.cell;
-    lanes[at + 5] = place.bucket;
-    lanes[at + 6] = place.slot;
-    lanes[at + 7] = code.moved;
-    lanes[at + 8] = code.bucket;
+    lanes[at + 5] = place.cell;
+    lanes[at + 6] = place.bucket;
+    lanes[at + 7] = place.slot;
+    lanes[at + 8] = code.moved;
+    lanes[at + 9] = code.bucket;
 }
 
 // Stores the numbers of an update that was just started.
-pub fn store_started(lanes: &mut [u32; 72], at: usize, oid: u32, x: u32, y: u32)
-    requires { ⌜ at ≤ 63 ⌝ }
-    ensures { λ r. ⌜ new lanes ≡ sets (old lanes) at (codeUpdater (startedUpdater oid x y)) ⌝ }
+pub fn store_started(lanes: &mut [u32; 80], at: usize, oid: u32, x: u32, y: u32, tag: u32)
+    requires { ⌜ at ≤ 70 ⌝ }
+    ensures { λ r. ⌜ new lanes ≡ sets (old lanes) at (codeUpdater (startedUpdater oid x y tag)) ⌝ }
 {
     lanes[at] = oid;
     lanes[at + 1] = x;
     lanes[at + 2] = y;
+    lanes[at + 3] = tag;
     lanes[at + STAGE_AT] = 1;
-    lanes[at + 4] = 0;
     lanes[at + 5] = 0;
     lanes[at + 6] = 0;
     lanes[at + 7] = 0;
     lanes[at + 8] = 0;
+    lanes[at + 9] = 0;
 }

@@ -59,7 +59,7 @@ module _ (t : Tables) (qs : List Query) (l n : ℕ) where
       (unless (ltb l 4) 1
       (unless (not (isIdle (getD qs l idleQuery .stage))) 3
       (unless (isFinished (getD qs l idleQuery .stage)) 10
-      (unless (leb (3 * getD qs l idleQuery .hits) n) 11
+      (unless (leb (4 * getD qs l idleQuery .hits) n) 11
       (unless (leb (getD qs l idleQuery .hits) 256) 12
       (answered 0 t (takenOut t qs l n)))))))
   unfolding collectQuery readQuery thenClear cleared

@@ -34,7 +34,7 @@ pub record Finished (t : Tables) (qs : List Query) (l : ℕ) : Type 0 where
 -- those of the list besides
 pub record Ready (t : Tables) (qs : List Query) (l n : ℕ) : Type 0 where
   pub query : Finished t qs l
-  pub room : leb (3 * getD qs l idleQuery .hits) n ≡ true
+  pub room : leb (4 * getD qs l idleQuery .hits) n ≡ true
   pub few : leb (getD qs l idleQuery .hits) 256 ≡ true
 
 module _ (t : Tables) (qs : List Query) (l : ℕ) where

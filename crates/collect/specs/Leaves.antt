@@ -22,7 +22,7 @@ pub record Unchanged (t : Tables) (qs : List Query) (out : List ℕ) (f : Fillin
 -- An accepted reading: the steps and the entries of its lane, later numbers of the list and the tables as they were.
 pub record Told (t : Tables) (qs : List Query) (l : ℕ) (out : List ℕ) (f : Filling) : Type 0 where
   pub steps : f .steps ≡ laneOf qs l .steps
-  pub filled : f .filled ≡ 3 * laneOf qs l .hits
+  pub filled : f .filled ≡ 4 * laneOf qs l .hits
   pub part : take (f .filled) (f .list) ≡ entriesFrom (t .hits) (256 * l) (laneOf qs l .hits)
   pub rest : drop (f .filled) (f .list) ≡ drop (f .filled) out
   pub same : length (f .list) ≡ length out

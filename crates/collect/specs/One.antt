@@ -28,7 +28,7 @@ readOne t l q n =
     (unless (ltb l 4) NO-SUCH-LANE
     (unless (not (isIdle (q .stage))) LANE-IDLE
     (unless (isFinished (q .stage)) QUERY-UNFINISHED
-    (unless (leb (3 * q .hits) n) SHORT-OUTPUT
+    (unless (leb (4 * q .hits) n) SHORT-OUTPUT
     (unless (leb (q .hits) 256) CORRUPT
     (answered DONE t (handedOneOf (q .steps) (entriesFrom (t .hits) (256 * l) (q .hits)))))))))
 

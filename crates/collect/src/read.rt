@@ -24,7 +24,7 @@ pub struct Reading {
     pub filled: usize,
 }
 
-// Hands back the list of the finished query in a lane, given by value: three numbers for each entry, over the front of the caller's list. No table changes,
+// Hands back the list of the finished query in a lane, given by value: four numbers for each entry, over the front of the caller's list. No table changes,
 // and the query stays as it is. Gives 0, or is refused with 12 (lengths), 1, 3, 10, 11 or 12 (the number of hits), which leaves the list as it is.
 // The filled part is `out[..filled]`.
 pub fn read_one(q: Query, lane: u32, out: &mut [u32], words: &[u32], times: &[i32]) -> Reading
@@ -41,7 +41,7 @@ pub fn read_one(q: Query, lane: u32, out: &mut [u32], words: &[u32], times: &[i3
         Admission::Accepted(found) => {
             let size = found.hits as usize;
             write_entries(&words[HITS..CLOCK], LIST_SIZE * (lane as usize), size, out);
-            let filled = 3 * size;
+            let filled = 4 * size;
             Reading {
                 number: DONE,
                 steps: found.steps,

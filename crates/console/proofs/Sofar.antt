@@ -65,17 +65,17 @@ reset-empty w ts ls n t us qs h k e =
     sym (ap (λ (a : After Lanes). gridOf (a .tables) (a .lanes .updaters) (a .lanes .queries)) told)
 
 pub sofar-start : (block out : List ℕ) {p : Progress} {g : Grid} → p ≡ atStart → g ≡ emptyGrid
-    → Before 0 block p out g (replicate 768 0)
+    → Before 0 block p out g (replicate 1024 0)
 unfolding joined outputOf
 sofar-start block out {p} {g} e k =
-    subst (λ (x : Progress). Before 0 block x out g (replicate 768 0)) (sym e)
+    subst (λ (x : Progress). Before 0 block x out g (replicate 1024 0)) (sym e)
     record {
       blocks = [];
       pieces = [];
       text =
           λ later h.
-          sym (kept-output 0 later emptyGrid (replicate 768 0))
-          ∙ ap (λ (x : Grid). scriptText 0 (keptLines [] later) x (replicate 768 0)) (sym k);
+          sym (kept-output 0 later emptyGrid (replicate 1024 0))
+          ∙ ap (λ (x : Grid). scriptText 0 (keptLines [] later) x (replicate 1024 0)) (sym k);
     }
 
 -- ---- the next line

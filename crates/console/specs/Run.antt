@@ -12,10 +12,10 @@ use Rattle.streams.specs.Lines.{joined, linesOf}
 use Rattle.console.specs.Text.{scriptText}
 use Rattle.console.specs.declared.run.Ended.{Ended}
 
--- THE OUTPUT OF AN INPUT: of its lines, numbered from 1, on an empty grid, with a list of 768 numbers lent to
+-- THE OUTPUT OF AN INPUT: of its lines, numbered from 1, on an empty grid, with a list of 1024 numbers lent to
 -- collections
 unfoldable pub outputOf : List ℕ → List ℕ
-outputOf bytes = scriptText 0 (linesOf bytes) emptyGrid (replicate 768 0)
+outputOf bytes = scriptText 0 (linesOf bytes) emptyGrid (replicate 1024 0)
 
 -- some bytes begin a text
 pub record Begins (front text : List ℕ) : Type 0 where

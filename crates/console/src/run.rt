@@ -28,7 +28,7 @@ pub fn run_script(input: i32, output: i32) -> Ended
 {
     let mut words = [0u32; WORDS];
     let mut times = [0i32; TIMES];
-    let mut list = [0u32; 768];
+    let mut list = [0u32; 1024];
     let mut block = [0u8; 4096];
     let mut line = [0u8; 61];
     let mut out = [0u8; 16384];

@@ -33,7 +33,7 @@ pub fn answer_line(
     words: &mut [u32],
     times: &mut [i32],
 ) -> Answered
-    requires { ⌜ (due .waiting + 8512 ≤ length (now out)) × (length (now list) ≡ 768) ⌝ }
+    requires { ⌜ (due .waiting + 11328 ≤ length (now out)) × (length (now list) ≡ 1024) ⌝ }
     ensures { λ r. ⌜ OnGrid words times (Prints line due out list updaters queries r) ⌝ }
 {
     let done = line_step(line, list, updaters, queries, words, times);

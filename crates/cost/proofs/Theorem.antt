@@ -38,7 +38,7 @@ no-steps c g a b = go (acceptedNumber (call c g .0 .number))
 
 -- one call
 keep : (c : Call) (past : List Event) (g : Grid) → Rel past g → Rel (eventOf c g ∷ past) (call c g .1) × Claim (eventOf c g) past
-keep (startUpdate l k x y) past g R = (keep-update-start past g R l k x y, let w = no-steps (startUpdate l k x y) g (λ n. refl) (λ n. refl) in no-claim _ past (w .0) (w .1))
+keep (startUpdate l k x y m) past g R = (keep-update-start past g R l k x y m, let w = no-steps (startUpdate l k x y m) g (λ n. refl) (λ n. refl) in no-claim _ past (w .0) (w .1))
 keep (stepUpdate l) past g R = (keep-update-step past g R l, let w = no-steps (stepUpdate l) g (λ n. refl) (λ n. refl) in no-claim _ past (w .0) (w .1))
 keep (startQuery l u) past g R = keep-query-start past g R l u
 keep (stepQuery l) past g R = keep-query-step past g R l

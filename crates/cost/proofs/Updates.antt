@@ -67,10 +67,10 @@ in-new k ks false e = here
 
 -- ---- the start of an update
 
-module _ (past : List Event) (g : Grid) (R : Rel past g) (l k x y : ℕ) (e : Event) (t′ : Tables) (us′ : List Updater) (is : deed e ≡ deedOf (some (l, k)) none none none none)
-    (B : UpdateBegun (g .tables) (g .updaters) l k x y t′ us′) (G′ : Good (gridOf t′ us′ (g .queries))) where
+module _ (past : List Event) (g : Grid) (R : Rel past g) (l k x y m : ℕ) (e : Event) (t′ : Tables) (us′ : List Updater) (is : deed e ≡ deedOf (some (l, k)) none none none none)
+    (B : UpdateBegun (g .tables) (g .updaters) l k x y m t′ us′) (G′ : Good (gridOf t′ us′ (g .queries))) where
   abbrev u : Updater
-  u = record { oid = k; x = x; y = y; stage = TakeObject }
+  u = record { oid = k; x = x; y = y; tag = m; stage = TakeObject }
 
   abbrev g′ : Grid
   g′ = gridOf t′ us′ (g .queries)
@@ -172,17 +172,17 @@ module _ (past : List Event) (g : Grid) (R : Rel past g) where
   unfolding after
   refuses c n a = rel-nothing (eventBy c (refused n)) past g (deed-refused (eventBy c (refused n)) refl a) R
 
-  module _ (l k x y : ℕ) where
-    start-by : (r : Result (List Updater)) → updateStart t (g .updaters) l k x y ≡ r → Good (gridBy r) → Verdict r → Rel (eventBy (startUpdate l k x y) r ∷ past) (gridBy r)
+  module _ (l k x y m : ℕ) where
+    start-by : (r : Result (List Updater)) → updateStart t (g .updaters) l k x y m ≡ r → Good (gridBy r) → Verdict r → Rel (eventBy (startUpdate l k x y m) r ∷ past) (gridBy r)
     unfolding after
-    start-by _ e G (no n a) = refuses (startUpdate l k x y) n a
+    start-by _ e G (no n a) = refuses (startUpdate l k x y m) n a
     start-by _ e G (yes t′ us′) =
-        let ev = eventBy (startUpdate l k x y) (answered 0 t′ us′) in
-        update-starts past g R l k x y ev t′ us′ (deed-accepted ev 0 refl refl refl) (update-begun t (g .updaters) l k x y t′ us′ e) G
+        let ev = eventBy (startUpdate l k x y m) (answered 0 t′ us′) in
+        update-starts past g R l k x y m ev t′ us′ (deed-accepted ev 0 refl refl refl) (update-begun t (g .updaters) l k x y m t′ us′ e) G
 
-    pub keep-update-start : Rel (eventOf (startUpdate l k x y) g ∷ past) (call (startUpdate l k x y) g .1)
+    pub keep-update-start : Rel (eventOf (startUpdate l k x y m) g ∷ past) (call (startUpdate l k x y m) g .1)
     unfolding call
-    keep-update-start = start-by (updateStart t (g .updaters) l k x y) refl (call-good (startUpdate l k x y) g (R .good) .1) (update-verdict t (g .updaters) l k x y)
+    keep-update-start = start-by (updateStart t (g .updaters) l k x y m) refl (call-good (startUpdate l k x y m) g (R .good) .1) (update-verdict t (g .updaters) l k x y m)
 
   module _ (l : ℕ) where
     abbrev u₀ : Updater

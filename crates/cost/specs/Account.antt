@@ -70,7 +70,7 @@ settledDeed ks = record { begins = none; ends = none; asks = none; goes = none; 
 
 -- an update ends with the step that gives 22
 abbrev pub accepted : Call → ℕ → Deed
-accepted (startUpdate l k x y) n = deedOf (some (l, k)) none none none none
+accepted (startUpdate l k x y m) n = deedOf (some (l, k)) none none none none
 accepted (stepUpdate l) n = deedOf none (pick (eqb n FINISHED) (some l) none) none none none
 accepted (startQuery l u) n = deedOf none none (some (l, u)) none none
 accepted (stepQuery l) n = deedOf none none none (some (l, n)) none

@@ -73,14 +73,15 @@ tests t u =
     same (t .first) (u .first) ∷ same (t .cells) (u .cells) ∷ same (t .count) (u .count) ∷ same (t .next) (u .next)
     ∷ same (t .readers) (u .readers) ∷ same (t .pool) (u .pool) ∷ eqb (t .clock) (u .clock)
     ∷ same (t .tuples .oid) (u .tuples .oid) ∷ same (t .tuples .x) (u .tuples .x) ∷ same (t .tuples .y) (u .tuples .y)
-    ∷ stamps (t .tuples .time) (u .tuples .time)
+    ∷ same (t .tuples .tag) (u .tuples .tag) ∷ stamps (t .tuples .time) (u .tuples .time)
     ∷ same (t .index .oid) (u .index .oid) ∷ same (t .index .lock) (u .index .lock)
     ∷ same (t .index .current) (u .index .current) ∷ same (t .index .previous) (u .index .previous)
-    ∷ same (t .hits .oid) (u .hits .oid) ∷ same (t .hits .x) (u .hits .x) ∷ same (t .hits .y) (u .hits .y) ∷ []
+    ∷ same (t .hits .oid) (u .hits .oid) ∷ same (t .hits .x) (u .hits .x) ∷ same (t .hits .y) (u .hits .y)
+    ∷ same (t .hits .tag) (u .hits .tag) ∷ []
 
-same-tables : (t u : Tables) → tests t u ≡ replicate 18 true → t ≡ u
+same-tables : (t u : Tables) → tests t u ≡ replicate 20 true → t ≡ u
 same-tables t u h =
-    let is : (n : ℕ) → getD (tests t u) n false ≡ getD (replicate 18 true) n false =
+    let is : (n : ℕ) → getD (tests t u) n false ≡ getD (replicate 20 true) n false =
     λ n. ap (λ (l : List Bool). getD l n false) h in
     λ i. tablesOf
     (same-list (t .first) (u .first) (is 0) i)
@@ -92,17 +93,19 @@ same-tables t u h =
     (same-list (t .tuples .oid) (u .tuples .oid) (is 7) i)
     (same-list (t .tuples .x) (u .tuples .x) (is 8) i)
     (same-list (t .tuples .y) (u .tuples .y) (is 9) i)
-    (same-stamps (t .tuples .time) (u .tuples .time) (is 10) i))
+    (same-list (t .tuples .tag) (u .tuples .tag) (is 10) i)
+    (same-stamps (t .tuples .time) (u .tuples .time) (is 11) i))
     (indexOf
-    (same-list (t .index .oid) (u .index .oid) (is 11) i)
-    (same-list (t .index .lock) (u .index .lock) (is 12) i)
-    (same-list (t .index .current) (u .index .current) (is 13) i)
-    (same-list (t .index .previous) (u .index .previous) (is 14) i))
+    (same-list (t .index .oid) (u .index .oid) (is 12) i)
+    (same-list (t .index .lock) (u .index .lock) (is 13) i)
+    (same-list (t .index .current) (u .index .current) (is 14) i)
+    (same-list (t .index .previous) (u .index .previous) (is 15) i))
     (same-list (t .pool) (u .pool) (is 5) i)
     (hitsOf
-    (same-list (t .hits .oid) (u .hits .oid) (is 15) i)
-    (same-list (t .hits .x) (u .hits .x) (is 16) i)
-    (same-list (t .hits .y) (u .hits .y) (is 17) i))
+    (same-list (t .hits .oid) (u .hits .oid) (is 16) i)
+    (same-list (t .hits .x) (u .hits .x) (is 17) i)
+    (same-list (t .hits .y) (u .hits .y) (is 18) i)
+    (same-list (t .hits .tag) (u .hits .tag) (is 19) i))
     (eqb-true (t .clock) (u .clock) (is 6) i)
 
 -- ---- three turns
@@ -114,15 +117,15 @@ before = run swapped emptyGrid
 after : Grid
 after = run turns before
 
-tables-tested : tests (after .tables) (before .tables) ≡ replicate 18 true
+tables-tested : tests (after .tables) (before .tables) ≡ replicate 20 true
 unfolding openedHere before after same stamp stamps
 tables-tested = refl
 
 -- lane 0 has the lock of object 7 and is to lock the cell of its former place, lane 1 is at stage 1
 abbrev lanes : List Updater
 lanes =
-    record { oid = 7; x = 2100; y = 100; stage = LockCell (record { cell = 0; bucket = 511; slot = 0 }) }
-    ∷ record { oid = 8; x = 3100; y = 100; stage = TakeObject }
+    record { oid = 7; x = 2100; y = 100; tag = 0; stage = LockCell (record { cell = 0; bucket = 511; slot = 0 }) }
+    ∷ record { oid = 8; x = 3100; y = 100; tag = 0; stage = TakeObject }
     ∷ idleUpdater ∷ idleUpdater ∷ idleUpdater ∷ idleUpdater ∷ idleUpdater ∷ idleUpdater ∷ []
 
 lanes-before : before .updaters ≡ lanes

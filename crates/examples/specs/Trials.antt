@@ -55,8 +55,13 @@ cornersNumber x0 y0 x1 y1 = corners (record { x0 = x0; y0 = y0; x1 = x1; y1 = y1
 
 -- ---- runs from the empty grid
 
+-- a report with mark 0
 abbrev pub start : ℕ → ℕ → ℕ → ℕ → Call
-start l k x y = startUpdate l k x y
+start l k x y = startUpdate l k x y 0
+
+-- with a mark
+abbrev pub marked : ℕ → ℕ → ℕ → ℕ → ℕ → Call
+marked l k x y m = startUpdate l k x y m
 
 abbrev pub step : ℕ → Call
 step l = stepUpdate l
@@ -83,7 +88,7 @@ sweeps l (suc n) = stepQuery l ∷ sweeps l n
 
 -- the steps and the entries that a collection from lane 0 hands back after the calls, after its number
 collected : List Call → List ℕ
-collected cs = let a = call (collect 0 768) (run cs emptyGrid) .0 in a .number ∷ a .steps ∷ a .part
+collected cs = let a = call (collect 0 1024) (run cs emptyGrid) .0 in a .number ∷ a .steps ∷ a .part
 
 -- the account of the last query of lane 0 after the calls: its steps, K, N, whether it has finished, what was found in its cells, and the tally's count
 accountBy : Option Sweep → ℕ → List ℕ
@@ -161,7 +166,7 @@ lost =
 abbrev again : List Call
 again =
     seven ++ (sweep 0 0 0 1023 1023 ∷ sweeps 0 3)
-    ++ collect 0 768 ∷ start 0 8 200 200 ∷ step 0 ∷ step 0 ∷ sweep 0 0 0 1023 1023 ∷ stepQuery 0 ∷ stepQuery 4 ∷ []
+    ++ collect 0 1024 ∷ start 0 8 200 200 ∷ step 0 ∷ step 0 ∷ sweep 0 0 0 1023 1023 ∷ stepQuery 0 ∷ stepQuery 4 ∷ []
 
 -- ---- the rows, in parts that are computed one by one
 
@@ -188,7 +193,7 @@ numberRows =
     ∷ row (numbers emptyGrid (sweep 0 16384 0 16384 0 ∷ sweep 0 0 16384 0 16384 ∷ [])) (5 ∷ 5 ∷ [])
     -- and a carrier reported there is listed there
     ∷ row (collected ((start 0 7 16383 16383 ∷ steps 0 7) ++ sweep 0 16383 16383 16383 16383 ∷ sweeps 0 3))
-    (0 ∷ 3 ∷ 7 ∷ 16383 ∷ 16383 ∷ [])
+    (0 ∷ 3 ∷ 7 ∷ 16383 ∷ 16383 ∷ 0 ∷ [])
     ∷ []
 
 -- reports
@@ -213,19 +218,36 @@ unfoldable sweepRows : List Row
 sweepRows =
     -- a rectangle of one point is accepted, and a carrier on it is listed; lower x one above upper gives 6
     row (drop 8 (numbers emptyGrid (seven ++ sweep 0 100 100 100 100 ∷ sweep 1 101 100 100 100 ∷ []))) (0 ∷ 6 ∷ [])
-    ∷ row (collected (seven ++ sweep 0 100 100 100 100 ∷ sweeps 0 3)) (0 ∷ 3 ∷ 7 ∷ 100 ∷ 100 ∷ [])
+    ∷ row (collected (seven ++ sweep 0 100 100 100 100 ∷ sweeps 0 3)) (0 ∷ 3 ∷ 7 ∷ 100 ∷ 100 ∷ 0 ∷ [])
     -- an empty deck, one cell: one step, no entry
     ∷ row (numbers emptyGrid (sweep 0 0 0 1023 1023 ∷ sweeps 0 1)) (0 ∷ 22 ∷ [])
     ∷ row (collected (sweep 0 0 0 1023 1023 ∷ sweeps 0 1)) (0 ∷ 1 ∷ [])
     -- carrier 9, alone and reported once, is at (2100, 100); the sweep has passed cell 0; 9 goes to (100, 100) to the end: listed at (2100, 100), 5 steps
-    ∷ row (collected ((start 0 9 2100 100 ∷ steps 0 7) ++ (sweep 0 0 0 3071 100 ∷ sweeps 0 1) ++ (start 0 9 100 100 ∷ steps 0 8) ++ sweeps 0 4)) (0 ∷ 5 ∷ 9 ∷ 2100 ∷ 100 ∷ [])
+    ∷ row (collected ((start 0 9 2100 100 ∷ steps 0 7) ++ (sweep 0 0 0 3071 100 ∷ sweeps 0 1) ++ (start 0 9 100 100 ∷ steps 0 8) ++ sweeps 0 4)) (0 ∷ 5 ∷ 9 ∷ 2100 ∷ 100 ∷ 0 ∷ [])
     -- carrier 9, alone, was at (100, 100), stands at (1100, 100); the same sweep finishes cells 0 and 1; 9 goes to (2100, 100): listed there after 9 steps
-    ∷ row (collected nine) (0 ∷ 9 ∷ 9 ∷ 2100 ∷ 100 ∷ [])
+    ∷ row (collected nine) (0 ∷ 9 ∷ 9 ∷ 2100 ∷ 100 ∷ 0 ∷ [])
     -- which finishes with that step
     ∷ row (drop 39 (numbers emptyGrid nine)) (0 ∷ 0 ∷ 22 ∷ [])
     -- the same rectangle on two decks with different carriers in it: different lists
-    ∷ row (collected (seven ++ sweep 0 0 0 1023 1023 ∷ sweeps 0 3)) (0 ∷ 3 ∷ 7 ∷ 100 ∷ 100 ∷ [])
-    ∷ row (collected ((start 0 8 200 200 ∷ steps 0 7) ++ sweep 0 0 0 1023 1023 ∷ sweeps 0 3)) (0 ∷ 3 ∷ 8 ∷ 200 ∷ 200 ∷ [])
+    ∷ row (collected (seven ++ sweep 0 0 0 1023 1023 ∷ sweeps 0 3)) (0 ∷ 3 ∷ 7 ∷ 100 ∷ 100 ∷ 0 ∷ [])
+    ∷ row (collected ((start 0 8 200 200 ∷ steps 0 7) ++ sweep 0 0 0 1023 1023 ∷ sweeps 0 3)) (0 ∷ 3 ∷ 8 ∷ 200 ∷ 200 ∷ 0 ∷ [])
+    ∷ []
+
+-- marks (document 02, request d)
+unfoldable markRows : List Row
+markRows =
+    -- mark 9 is accepted, 10 gives 31; a point off the deck comes before it
+    row (numbers emptyGrid (marked 0 7 100 100 9 ∷ marked 1 8 100 100 10 ∷ marked 1 8 16384 0 10 ∷ [])) (0 ∷ 31 ∷ 5 ∷ [])
+    -- a report with mark 3, then one within the cell with mark 5: listed with 5
+    ∷ row (collected ((marked 0 7 100 100 3 ∷ steps 0 7) ++ (marked 0 7 200 200 5 ∷ steps 0 3) ++ sweep 0 0 0 1023 1023 ∷ sweeps 0 3))
+    (0 ∷ 3 ∷ 7 ∷ 200 ∷ 200 ∷ 5 ∷ [])
+    -- a report that moves during the sweep: the mark listed is that of the place listed
+    ∷ row (collected ((marked 0 9 2100 100 1 ∷ steps 0 7) ++ (sweep 0 0 0 3071 100 ∷ sweeps 0 1) ++ (marked 0 9 100 100 2 ∷ steps 0 8) ++ sweeps 0 4))
+    (0 ∷ 5 ∷ 9 ∷ 2100 ∷ 100 ∷ 1 ∷ [])
+    -- a tuple that stage 4 moves keeps its mark: 8 with mark 4 stands behind 7 in the cell that 7 leaves
+    ∷ row (collected ((marked 0 7 100 100 3 ∷ steps 0 7) ++ (marked 0 8 200 200 4 ∷ steps 0 7) ++ (marked 0 7 1100 100 6 ∷ steps 0 8)
+    ++ (marked 0 7 2100 100 7 ∷ steps 0 13) ++ sweep 0 0 0 1023 1023 ∷ sweeps 0 3))
+    (0 ∷ 3 ∷ 8 ∷ 200 ∷ 200 ∷ 4 ∷ [])
     ∷ []
 
 -- the account of a sweep and the tally's answers
@@ -254,7 +276,7 @@ boundRows =
 
 -- THE TABLE: more rows go into a part, or into a part of their own
 pub table : List Row
-table = numberRows ++ reportRows ++ sweepRows ++ accountRows ++ boundRows
+table = numberRows ++ reportRows ++ sweepRows ++ markRows ++ accountRows ++ boundRows
 
 unfoldable pub gives : List Row → List (List ℕ)
 gives [] = []
@@ -311,6 +333,10 @@ sweep-rows : Holds sweepRows
 unfolding opened sweepRows
 sweep-rows = refl
 
+mark-rows : Holds markRows
+unfolding opened markRows
+mark-rows = refl
+
 account-rows : Holds accountRows
 unfolding opened accountRows
 account-rows = refl
@@ -325,8 +351,10 @@ unfolding table
 trials =
     both _ boundRows
     (both _ accountRows
+    (both _ markRows
     (both _ sweepRows
     (both numberRows reportRows number-rows report-rows)
     sweep-rows)
+    mark-rows)
     account-rows)
     bound-rows

@@ -95,7 +95,7 @@ module _ (es : List Event) (g : Grid) (R : AtRest g) (times : List ℤ) (clock :
           spot = λ t. absurd (rw i at t);
         };
         stays = N .stays;
-        positive = λ b c h i o lt t. rw (T′ .oid b i, T′ .x b i, T′ .y b i)
+        positive = λ b c h i o lt t. rw (T′ .oid b i, T′ .x b i, T′ .y b i, T′ .tag b i)
             (N .positive b c h i o lt (stands-back b i t));
       }
 

@@ -57,7 +57,7 @@ empty-fine =
 -- ---- one call
 call-fresh : (c : Call) (g : Grid) (es : List Event) → Fine es g → Fresh (recall (eventOf c (call c g .0 .number)) es) (call c g .1)
 unfolding call eventOf recall
-call-fresh (startUpdate l k x y) g es F = start-fresh g es (F .fresh) l k x y (F .good .shape)
+call-fresh (startUpdate l k x y m) g es F = start-fresh g es (F .fresh) l k x y m (F .good .shape)
 call-fresh (stepUpdate l) g es F = update-fresh g (F .good) es (F .fresh) l
 call-fresh (startQuery q u) g es F = query-start-fresh g (F .good .shape) es (F .fresh) q u
 call-fresh (stepQuery q) g es F = query-fresh g (F .good) es (F .fresh) q

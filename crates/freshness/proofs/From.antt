@@ -57,7 +57,7 @@ module _ (g₀ : Grid) (es₀ : List Event) (F₀ : Fine es₀ g₀) (cs : List 
         let g = finishedFrom g₀ cs q in
         let v = query g q in
         let r = held-run q (w .0) v (w .1) (g .tables .hits) ds g (fine .good)
-        (record { lane = refl; same = λ i i<. record { oid = refl; x = refl; y = refl } }) o in
+        (record { lane = refl; same = λ i i<. record { oid = refl; x = refl; y = refl; tag = refl } }) o in
         let few = few-hits _ _ _ q v (v .stage) (λ z. clash (cc (w .1))) (fine .good .asks q (w .0)) in
         handed q (w .0) v (w .1) (g .tables .hits) (run ds g) (r .1) few n a .0
 
@@ -78,7 +78,7 @@ module _ (g₀ : Grid) (es₀ : List Event) (F₀ : Fine es₀ g₀) (cs : List 
       let g = run cs g₀ in
       let v = query g q in
       let O = read-over q n g a in
-      let H : Held q v (g .tables .hits) g = record { lane = refl; same = λ i i<. record { oid = refl; x = refl; y = refl } } in
+      let H : Held q v (g .tables .hits) g = record { lane = refl; same = λ i i<. record { oid = refl; x = refl; y = refl; tag = refl } } in
       let r = held-run q (O .lane) v (O .finished) (g .tables .hits) ds g (fine-of .good) H o in
       let few = few-hits _ _ _ q v (v .stage) (λ z. clash (cc (O .finished))) (fine-of .good .asks q (O .lane)) in
       let first = handed q (O .lane) v (O .finished) (g .tables .hits) g H few n a in

@@ -302,9 +302,9 @@ module _ (g : Grid) (ds : List Entry) (es : List Event) (T : Tie ds es) where
   tie-call : (c : Call) → Valid (recall (eventOf c (call c g .0 .number)) es)
       → Tie (entryOf c g ∷ ds) (recall (eventOf c (call c g .0 .number)) es)
   unfolding eventOf recall pick refused
-  tie-call (startUpdate l k x y) v =
-      let c = startUpdate l k x y in
-      let h = hit k (record { x = x; y = y }) in
+  tie-call (startUpdate l k x y m) v =
+      let c = startUpdate l k x y m in
+      let h = hit k (record { x = x; y = y; tag = m }) in
       by-test (acceptedNumber (call c g .0 .number))
       (λ z.
       let w : Valid (begins l h ∷ es) = rw z at v in

@@ -32,7 +32,7 @@ pub data Event : Type 0 where
 
 -- what a call and the number that it gives tell, if anything: an accepted start, or a step of an update that gives 22
 unfoldable pub eventOf : Call → ℕ → Option Event
-eventOf (startUpdate l k x y) n = pick (refused n) none (some (begins l (hit k (record { x = x; y = y }))))
+eventOf (startUpdate l k x y m) n = pick (refused n) none (some (begins l (hit k (record { x = x; y = y; tag = m }))))
 eventOf (stepUpdate l) n = pick (eqb n FINISHED) (some (ends l)) none
 eventOf (startQuery q u) n = pick (refused n) none (some (asks q u))
 eventOf (stepQuery q) n = none
@@ -144,7 +144,7 @@ places q k es = placesBy (standing k es) (updates q k es)
 
 -- an accepted clearing of lane q, by itself or in a collection
 unfoldable pub takes : ℕ → Call → ℕ → Bool
-takes q (startUpdate l k x y) n = false
+takes q (startUpdate l k x y m) n = false
 takes q (stepUpdate l) n = false
 takes q (startQuery j u) n = false
 takes q (stepQuery j) n = false

@@ -110,19 +110,19 @@ module _ (n l : ℕ) (t : Tables) (ns : List ℕ) where
 
 -- ---- a reading
 
--- at most 768 numbers are filled
+-- at most 1024 numbers are filled
 few : (t : Tables) (b : Bool) (n : ℕ) (k : Result HandedOne)
-    → (b ≡ true → length (after t (handedOneOf 0 []) k .lanes .part) ≤ 768) → length (after t (handedOneOf 0 []) (unless b n k) .lanes .part) ≤ 768
+    → (b ≡ true → length (after t (handedOneOf 0 []) k .lanes .part) ≤ 1024) → length (after t (handedOneOf 0 []) (unless b n k) .lanes .part) ≤ 1024
 unfolding unless after
 few t true n k h = h refl
 few t false n k h = omega arith
 
 few-entries : (t : Tables) (l : ℕ) (q : Query) → leb (q .hits) 256 ≡ true
-    → length (after t (handedOneOf 0 []) (answered 0 t (handedOneOf (q .steps) (entriesFrom (t .hits) (256 * l) (q .hits)))) .lanes .part) ≤ 768
+    → length (after t (handedOneOf 0 []) (answered 0 t (handedOneOf (q .steps) (entriesFrom (t .hits) (256 * l) (q .hits)))) .lanes .part) ≤ 1024
 unfolding after
 few-entries t l q h = omega (arith, entries-length (t .hits) (256 * l) (q .hits), leb-true (q .hits) 256 h)
 
-pub few-filled : (t : Tables) (l : ℕ) (q : Query) (out : List ℕ) → readOneInto t l q out .filled ≤ 768
+pub few-filled : (t : Tables) (l : ℕ) (q : Query) (out : List ℕ) → readOneInto t l q out .filled ≤ 1024
 unfolding readOneInto readOne
 few-filled t l q out =
     few t _ 12 _ (λ _. few t _ 1 _ (λ _. few t _ 3 _ (λ _. few t _ 10 _ (λ _. few t _ 11 _ (λ _.
@@ -130,8 +130,8 @@ few-filled t l q out =
 
 -- the same from the answer of `read_one`
 pub filled-fits : (t : Tables) (l : ℕ) (q : Query) (out : List ℕ) (n : ℕ) (t′ : Tables) (k f : ℕ) (out′ : List ℕ)
-    → readOneInto t l q out ≡ fillingOneOf n t′ k f out′ → f ≤ 768
-filled-fits t l q out n t′ k f out′ e = subst (λ (g : FillingOne). g .filled ≤ 768) e (few-filled t l q out)
+    → readOneInto t l q out ≡ fillingOneOf n t′ k f out′ → f ≤ 1024
+filled-fits t l q out n t′ k f out′ e = subst (λ (g : FillingOne). g .filled ≤ 1024) e (few-filled t l q out)
 
 module _ (t : Tables) (ns : List ℕ) (l : ℕ) (out : List ℕ) where
   pub read-none : 4 ≤ l → readFrom t ns l out ≡ fillingOneOf 1 t 0 0 out

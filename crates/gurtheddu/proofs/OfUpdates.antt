@@ -28,47 +28,48 @@ entered t u corrupt = away {n = 12} (λ z. omega arith)
 entered t u blocked = away {n = 12} (λ z. omega arith)
 entered t u (done d) = let-in
 
-starting : (t : Tables) (l : ℕ) (u : Updater) (k x y : ℕ) → Starting (startedUpdater k x y) (startOne t l u k x y)
+starting : (t : Tables) (l : ℕ) (u : Updater) (k x y m : ℕ) → Starting (startedUpdater k x y m) (startOne t l u k x y m)
 unfolding startOne
-starting t l u k x y =
+starting t l u k x y m =
     past _ 12 _ (λ z. omega arith) (past _ 1 _ (λ z. omega arith) (past _ 2 _ (λ z. omega arith) (past _ 4 _ (λ z. omega arith)
-    (past _ 5 _ (λ z. omega arith) (past _ 7 _ (λ z. omega arith) (past _ 8 _ (λ z. omega arith) (entered t _ _)))))))
+    (past _ 5 _ (λ z. omega arith) (past _ 31 _ (λ z. omega arith) (past _ 7 _ (λ z. omega arith) (past _ 8 _ (λ z. omega arith)
+    (entered t _ _))))))))
 
 -- of the update in the lane only whether it is idle is looked at
-alike : (t : Tables) (l : ℕ) (u v : Updater) (k x y : ℕ) → isIdle (u .stage) ≡ isIdle (v .stage) → startOne t l u k x y ≡ startOne t l v k x y
+alike : (t : Tables) (l : ℕ) (u v : Updater) (k x y m : ℕ) → isIdle (u .stage) ≡ isIdle (v .stage) → startOne t l u k x y m ≡ startOne t l v k x y m
 unfolding startOne
-alike t l u v k x y h = rw h
+alike t l u v k x y m h = rw h
 
-module _ (t : Tables) (ns : List ℕ) (l k x y : ℕ) where
-  pub start-none : 8 ≤ l → after t ns (startUpdate t ns l k x y) ≡ afterOf 1 t ns
+module _ (t : Tables) (ns : List ℕ) (l k x y m : ℕ) where
+  pub start-none : 8 ≤ l → after t ns (startUpdate t ns l k x y m) ≡ afterOf 1 t ns
   unfolding startUpdate unless after
   start-none h = rw (le-ltb l 8 h)
 
   module _ (l< : l < 8) where
     -- no stage has the number
-    pub start-nameless : 14 < stageIn ns l → after t ns (startUpdate t ns l k x y) ≡ afterOf 12 t ns
+    pub start-nameless : 14 < stageIn ns l → after t ns (startUpdate t ns l k x y m) ≡ afterOf 12 t ns
     unfolding startUpdate unless after
     start-nameless h = rw (lt-ltb l 8 l<, lt-leb (stageIn ns l) 14 h)
 
     module _ (g : stageIn ns l ≤ 14) where
-      onward : startUpdate t ns l k x y ≡ coded (withUpdater ns l) (startOne t l (updaterIn ns l) k x y)
+      onward : startUpdate t ns l k x y m ≡ coded (withUpdater ns l) (startOne t l (updaterIn ns l) k x y m)
       unfolding startUpdate unless
       onward = rw (lt-ltb l 8 l<, le-leb (stageIn ns l) 14 g)
 
       module _ (p : Updater) (ip : isIdle (p .stage) ≡ eqb (stageIn ns l) 0) (n : ℕ) (t′ : Tables) (v : Updater)
-          (e : after t p (startOne t l p k x y) ≡ afterOf n t′ v) where
-        same : startUpdate t ns l k x y ≡ coded (withUpdater ns l) (startOne t l p k x y)
-        same = onward ∙ ap (coded (withUpdater ns l)) (alike t l (updaterIn ns l) p k x y (lane-seen ns l g ∙ sym ip))
+          (e : after t p (startOne t l p k x y m) ≡ afterOf n t′ v) where
+        same : startUpdate t ns l k x y m ≡ coded (withUpdater ns l) (startOne t l p k x y m)
+        same = onward ∙ ap (coded (withUpdater ns l)) (alike t l (updaterIn ns l) p k x y m (lane-seen ns l g ∙ sym ip))
 
-        pub start-refused : n ≢ 0 → after t ns (startUpdate t ns l k x y) ≡ afterOf n t′ ns
+        pub start-refused : n ≢ 0 → after t ns (startUpdate t ns l k x y m) ≡ afterOf n t′ ns
         start-refused i =
             ap (after t ns) same
-            ∙ start-away (startedUpdater k x y) (withUpdater ns l) t p ns (startOne t l p k x y) (starting t l p k x y) n t′ v e i
+            ∙ start-away (startedUpdater k x y m) (withUpdater ns l) t p ns (startOne t l p k x y m) (starting t l p k x y m) n t′ v e i
 
-        pub start-accepted : n ≡ 0 → (ns′ : List ℕ) → ns′ ≡ withUpdater ns l (startedUpdater k x y) → after t ns (startUpdate t ns l k x y) ≡ afterOf 0 t′ ns′
+        pub start-accepted : n ≡ 0 → (ns′ : List ℕ) → ns′ ≡ withUpdater ns l (startedUpdater k x y m) → after t ns (startUpdate t ns l k x y m) ≡ afterOf 0 t′ ns′
         start-accepted i ns′ h =
             ap (after t ns) same
-            ∙ start-done (startedUpdater k x y) (withUpdater ns l) t p ns (startOne t l p k x y) (starting t l p k x y) n t′ v e i .0
+            ∙ start-done (startedUpdater k x y m) (withUpdater ns l) t p ns (startOne t l p k x y m) (starting t l p k x y m) n t′ v e i .0
             ∙ ap (afterOf 0 t′) (sym h)
 
 -- ---- a run

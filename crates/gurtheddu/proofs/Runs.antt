@@ -144,7 +144,7 @@ module _ (t : Tables) (l : ℕ) (u : Updater) where
       let past = same-unless t u Still in
       past _ _ _ (past _ _ _ (past _ _ _ (same-stage _ (stage-moves t (suc l) u (u .stage))))) (not-carried _ z) .lanes
 
-module _ (l : ℕ) (t : Tables) (ns : List ℕ) (ns# : length ns ≡ 72) (l< : l < 8) where
+module _ (l : ℕ) (t : Tables) (ns : List ℕ) (ns# : length ns ≡ 80) (l< : l < 8) where
   elsewhere : (v : Updater) (m : ℕ) → m ≢ l → updaterIn (withUpdater ns l v) m ≡ updaterIn ns m
   elsewhere v m i =
       by-test (ltb m l) (λ e. updater-below ns l ns# l< v m (ltb-true m l e)) (λ e. updater-above ns l ns# l< v m (beyond m l i (ltb-false m l e)))

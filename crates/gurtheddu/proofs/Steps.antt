@@ -126,24 +126,24 @@ module _ {L : Type 0} (step : Tables → L → Result L) (still : (t : Tables) (
 
 -- ---- updates
 
-nine-long : (u : Updater) → length (codeUpdater u) ≡ 9
+ten-long : (u : Updater) → length (codeUpdater u) ≡ 10
 unfolding codeUpdater
-nine-long u = refl
+ten-long u = refl
 
 module _ (l : ℕ) where
-  module _ (l< : l < 8) (ns : List ℕ) (v : Updater) (ns# : length ns ≡ 72) where
-    updater-fits : 9 * l + length (codeUpdater v) ≤ length ns
-    updater-fits = omega (arith, nine-long v)
+  module _ (l< : l < 8) (ns : List ℕ) (v : Updater) (ns# : length ns ≡ 80) where
+    updater-fits : 10 * l + length (codeUpdater v) ≤ length ns
+    updater-fits = omega (arith, ten-long v)
 
-    updaters-long : length (withUpdater ns l v) ≡ 72
-    updaters-long = length-sets ns (9 * l) (codeUpdater v) ∙ ns#
+    updaters-long : length (withUpdater ns l v) ≡ 80
+    updaters-long = length-sets ns (10 * l) (codeUpdater v) ∙ ns#
 
     updater-named : namesStage (withUpdater ns l v) l ≡ true
     unfolding codeUpdater
-    updater-named = ap (λ (k : ℕ). leb k 14) (stored-at ns (codeUpdater v) (9 * l) updater-fits 3) ∙ stage-named (v .stage)
+    updater-named = ap (λ (k : ℕ). leb k 14) (stored-at ns (codeUpdater v) (10 * l) updater-fits 4) ∙ stage-named (v .stage)
 
     updater-over : (w : Updater) → withUpdater (withUpdater ns l v) l w ≡ withUpdater ns l w
-    updater-over w = stored-over ns (codeUpdater v) (9 * l) updater-fits (codeUpdater w) (nine-long w ∙ sym (nine-long v))
+    updater-over w = stored-over ns (codeUpdater v) (10 * l) updater-fits (codeUpdater w) (ten-long w ∙ sym (ten-long v))
 
   -- a run of some steps: in a lane that is one, with a number that names a stage; with one that names none; in a lane that is none
   module _ (n : ℕ) (t : Tables) (ns : List ℕ) where
@@ -159,11 +159,11 @@ module _ (l : ℕ) where
     unfolding runUpdate pick
     updater-laneless e = rw (ne-eqb (suc n) 0 (λ z. omega arith), e)
 
-  updater-steps : ltb l 8 ≡ true → (n : ℕ) (t : Tables) (ns : List ℕ) → length ns ≡ 72 → namesStage ns l ≡ true
+  updater-steps : ltb l 8 ≡ true → (n : ℕ) (t : Tables) (ns : List ℕ) → length ns ≡ 80 → namesStage ns l ≡ true
       → codedRun ns (withUpdater ns l) (runSteps (λ t u. stepOne t l u) n t (updaterIn ns l)) ≡ callsOf (runUpdate 1 l) n t ns
   updater-steps e =
       let l< = ltb-true l 8 e in
-      coded-calls (λ t u. stepOne t l u) (λ t u. update-still t l u) 72 (λ ns. namesStage ns l) (λ ns. updaterIn ns l) (λ ns. withUpdater ns l)
+      coded-calls (λ t u. stepOne t l u) (λ t u. update-still t l u) 80 (λ ns. namesStage ns l) (λ ns. updaterIn ns l) (λ ns. withUpdater ns l)
       (updaters-long l<) (updater-named l<) (λ ns v ns#. updater-same ns l ns# l< v) (λ ns v w ns#. updater-over l< ns v ns# w)
       (runUpdate 1 l) (λ t ns g. updater-runs 0 t ns e g)
 

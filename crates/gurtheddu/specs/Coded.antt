@@ -30,12 +30,12 @@ coded store (answered n t u) = answered n t (store u)
 abbrev pub codedRun : {L : Type 0} → List ℕ → (L → List ℕ) → Ran L → Ran (List ℕ)
 codedRun ns store r = ranOf (r .number) (r .made) (r .tables) (pick (eqb (r .made) 0) ns (store (r .lanes)))
 
--- A START of an update of object k, to stand at (x, y), in lane l.
-unfoldable pub startUpdate : Tables → List ℕ → ℕ → ℕ → ℕ → ℕ → Result (List ℕ)
-startUpdate t ns l k x y =
+-- A START of an update of object k, to stand at (x, y) with tag m, in lane l.
+unfoldable pub startUpdate : Tables → List ℕ → ℕ → ℕ → ℕ → ℕ → ℕ → Result (List ℕ)
+startUpdate t ns l k x y m =
     unless (ltb l 8) NO-SUCH-LANE
     (unless (namesStage ns l) CORRUPT
-    (coded (withUpdater ns l) (startOne t l (updaterIn ns l) k x y)))
+    (coded (withUpdater ns l) (startOne t l (updaterIn ns l) k x y m)))
 
 -- UP TO n STEPS of the update in lane l.
 unfoldable pub runUpdate : ℕ → ℕ → Tables → List ℕ → Ran (List ℕ)

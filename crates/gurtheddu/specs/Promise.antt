@@ -11,9 +11,9 @@ use Rattle.calls.specs.Run.{ranOf}
 use Rattle.collect.specs.One.{fillingOneOf}
 use Rattle.gurtheddu.specs.Coded.{startUpdate, runUpdate, startSweep, runSweep, readFrom, clearLane, resetDeck, lanesOf, rewindDeck}
 
--- A START of an update of object k, to stand at (x, y), in lane l, gives n.
-abbrev pub StartsUpdate : Lent (List ℕ) → ℕ → ℕ → ℕ → ℕ → ℕ → Tables → Tables → Type 0
-StartsUpdate ns l k x y n t t′ = after t (old ns) (startUpdate t (old ns) l k x y) ≡ afterOf n t′ (new ns)
+-- A START of an update of object k, to stand at (x, y) with tag m, in lane l, gives n.
+abbrev pub StartsUpdate : Lent (List ℕ) → ℕ → ℕ → ℕ → ℕ → ℕ → ℕ → Tables → Tables → Type 0
+StartsUpdate ns l k x y m n t t′ = after t (old ns) (startUpdate t (old ns) l k x y m) ≡ afterOf n t′ (new ns)
 
 -- A RUN of up to b steps of the update in lane l gives n.
 abbrev pub RunsUpdate : Lent (List ℕ) → ℕ → ℕ → Lent ℕ → ℕ → Tables → Tables → Type 0

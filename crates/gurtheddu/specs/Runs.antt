@@ -39,7 +39,7 @@ decodedRun decode r = ranOf (r .number) (r .made) (r .tables) (decode (r .lanes)
 
 abbrev pub UpdateRunIsCalls : Type 0
 UpdateRunIsCalls =
-    (n l : ℕ) (t : Tables) (ns : List ℕ) → length ns ≡ 72 → l < 8 → namesStage ns l ≡ true
+    (n l : ℕ) (t : Tables) (ns : List ℕ) → length ns ≡ 80 → l < 8 → namesStage ns l ≡ true
     → decodedRun updatersIn (runUpdate n l t ns) ≡ runLane n l t (updatersIn ns)
 
 abbrev pub SweepRunIsCalls : Type 0
@@ -57,7 +57,7 @@ callsOf one (suc n) t ns =
     pick (eqb (a .number) DONE) (later (a .made) (callsOf one n (a .tables) (a .lanes))) a
 
 abbrev pub UpdateRunIsSteps : Type 0
-UpdateRunIsSteps = (n l : ℕ) (t : Tables) (ns : List ℕ) → length ns ≡ 72 → runUpdate n l t ns ≡ callsOf (runUpdate 1 l) n t ns
+UpdateRunIsSteps = (n l : ℕ) (t : Tables) (ns : List ℕ) → length ns ≡ 80 → runUpdate n l t ns ≡ callsOf (runUpdate 1 l) n t ns
 
 abbrev pub SweepRunIsSteps : Type 0
 SweepRunIsSteps = (n l : ℕ) (t : Tables) (ns : List ℕ) → length ns ≡ 44 → runSweep n l t ns ≡ callsOf (runSweep 1 l) n t ns

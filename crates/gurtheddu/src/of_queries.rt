@@ -30,7 +30,7 @@ pub extern "C" fn gurtheddu_query_start(
     y0: u32,
     x1: u32,
     y1: u32,
-    words: &mut [u32; 13826],
+    words: &mut [u32; 16898],
     times: &[i32; 2048],
 ) -> u32
     ensures { λ r. ⌜ OnGrid words times (StartsSweep queries lane (questionOf x0 y0 x1 y1) r) ⌝ }
@@ -63,7 +63,7 @@ pub extern "C" fn gurtheddu_query_run(
     lane: u32,
     budget: u32,
     made: &mut u32,
-    words: &mut [u32; 13826],
+    words: &mut [u32; 16898],
     times: &[i32; 2048],
 ) -> u32
     ensures { λ r. ⌜ OnGrid words times (RunsSweep queries lane budget made r) ⌝ }
@@ -90,7 +90,7 @@ pub extern "C" fn gurtheddu_query_run(
     ran.number
 }
 
-// Hands back the list of a finished query: three numbers for each entry over the front of the caller's list, how many numbers these are, and the steps
+// Hands back the list of a finished query: four numbers for each entry over the front of the caller's list, how many numbers these are, and the steps
 // of the query. Nothing else changes. Gives 0, or is refused with 1, 12 (the lane's number is none), 3, 10, 11 or 12 (the number of hits).
 #[no_mangle]
 pub extern "C" fn gurtheddu_read(
@@ -99,7 +99,7 @@ pub extern "C" fn gurtheddu_read(
     out: &mut [u32],
     steps: &mut u32,
     filled: &mut u32,
-    words: &[u32; 13826],
+    words: &[u32; 16898],
     times: &[i32; 2048],
 ) -> u32
     ensures { λ r. ⌜ OnGrid words times (ReadsFrom queries lane out steps filled r) ⌝ }
@@ -125,7 +125,7 @@ pub extern "C" fn gurtheddu_read(
 pub extern "C" fn gurtheddu_clear(
     queries: &mut [u32; 44],
     lane: u32,
-    words: &[u32; 13826],
+    words: &[u32; 16898],
     times: &[i32; 2048],
 ) -> u32
     ensures { λ r. ⌜ OnGrid words times (ClearsLane queries lane r) ⌝ }

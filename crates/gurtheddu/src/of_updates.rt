@@ -15,18 +15,19 @@ use codes::update_lane::store_updater;
 use update_run::run_update;
 use updates::start::start_one;
 
-// Starts an update of an object's place. Gives 0, or is refused with 1, 12 (no stage has the lane's number), 2, 4, 5, 7 or 8.
+// Starts an update of an object's place and tag. Gives 0, or is refused with 1, 12 (no stage has the lane's number), 2, 4, 5, 31, 7 or 8.
 #[no_mangle]
 pub extern "C" fn gurtheddu_update_start(
-    updaters: &mut [u32; 72],
+    updaters: &mut [u32; 80],
     lane: u32,
     oid: u32,
     x: u32,
     y: u32,
-    words: &mut [u32; 13826],
+    tag: u32,
+    words: &mut [u32; 16898],
     times: &[i32; 2048],
 ) -> u32
-    ensures { λ r. ⌜ OnGrid words times (StartsUpdate updaters lane oid x y r) ⌝ }
+    ensures { λ r. ⌜ OnGrid words times (StartsUpdate updaters lane oid x y tag r) ⌝ }
 {
     if lane >= UPDATER_COUNT {
         return NO_SUCH_LANE;
@@ -37,11 +38,11 @@ pub extern "C" fn gurtheddu_update_start(
         return CORRUPT;
     }
     let u = seen_updater(stage);
-    let one = start_one(u, lane, oid, x, y, words, times);
+    let one = start_one(u, lane, oid, x, y, tag, words, times);
     if one.number != DONE {
         return one.number;
     }
-    store_started(updaters, at, oid, x, y);
+    store_started(updaters, at, oid, x, y, tag);
     DONE
 }
 
@@ -49,11 +50,11 @@ pub extern "C" fn gurtheddu_update_start(
 // refused with 1, 12 (no stage has the lane's number), 3 or 12 (a stored number); and how many steps were carried out.
 #[no_mangle]
 pub extern "C" fn gurtheddu_update_run(
-    updaters: &mut [u32; 72],
+    updaters: &mut [u32; 80],
     lane: u32,
     budget: u32,
     made: &mut u32,
-    words: &mut [u32; 13826],
+    words: &mut [u32; 16898],
     times: &mut [i32; 2048],
 ) -> u32
     ensures { λ r. ⌜ OnGrid words times (RunsUpdate updaters lane budget made r) ⌝ }

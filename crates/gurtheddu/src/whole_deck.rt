@@ -18,9 +18,9 @@ use updates::lanes::idle_updaters;
 // Makes the tables an empty grid and every lane idle. Gives 0.
 #[no_mangle]
 pub extern "C" fn gurtheddu_reset(
-    updaters: &mut [u32; 72],
+    updaters: &mut [u32; 80],
     queries: &mut [u32; 44],
-    words: &mut [u32; 13826],
+    words: &mut [u32; 16898],
     times: &mut [i32; 2048],
 ) -> u32
     ensures { λ r. ⌜ OnGrid words times (ResetsDeck updaters queries r) ⌝ }
@@ -39,9 +39,9 @@ pub extern "C" fn gurtheddu_reset(
 // Winds every stamp and the clock back. Gives 0, or is refused with 12 (a lane's number is none) or 30 (not at rest). The lanes stay as they are.
 #[no_mangle]
 pub extern "C" fn gurtheddu_rewind(
-    updaters: &[u32; 72],
+    updaters: &[u32; 80],
     queries: &[u32; 44],
-    words: &mut [u32; 13826],
+    words: &mut [u32; 16898],
     times: &mut [i32; 2048],
 ) -> u32
     ensures { λ r. ⌜ OnGrid words times (RewindsDeck updaters queries r) ⌝ }

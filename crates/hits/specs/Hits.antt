@@ -1,4 +1,4 @@
--- The results of range queries (document 01: the lists of the sweeps): object, x and y of each hit. The list of query l begins at entry 256 × l.
+-- The results of range queries (document 01: the lists of the sweeps): object, x, y and tag of each hit. The list of query l begins at entry 256 × l.
 -- Crates above use the laws of proofs/Look.antt and do not unfold `lookFrom`.
 use mathlib.Core.Path.{_≡_}
 use mathlib.Core.Option.{Option, none, some}
@@ -9,7 +9,7 @@ use lib.ListN.{set}
 use Rattle.base.specs.Numbers.{DONE, CORRUPT}
 use Rattle.base.specs.Outcome.{Told, says, Outcome, done, need, pick, one, ended}
 use Rattle.base.specs.Table.{at}
-use Rattle.words.specs.Map.{HIT-XS, HIT-YS}
+use Rattle.words.specs.Map.{HIT-XS, HIT-YS, HIT-TAGS}
 use Rattle.words.specs.Part.{part}
 use Rattle.slots.specs.declared.tuple.Seen.{Seen}
 use Rattle.hits.specs.declared.Listed.{Listed}
@@ -22,17 +22,18 @@ pub record Hits : Type 0 where
   pub oid : List ℕ
   pub x : List ℕ
   pub y : List ℕ
+  pub tag : List ℕ
 
-abbrev pub hitsOf : List ℕ → List ℕ → List ℕ → Hits
-hitsOf o x y = record { oid = o; x = x; y = y }
+abbrev pub hitsOf : List ℕ → List ℕ → List ℕ → List ℕ → Hits
+hitsOf o x y m = record { oid = o; x = x; y = y; tag = m }
 
--- the three tables in one list of 3,072 numbers
+-- the four tables in one list of 4,096 numbers
 abbrev pub hitsAt : List ℕ → Hits
-hitsAt l = hitsOf (part 0 1024 l) (part HIT-XS 1024 l) (part HIT-YS 1024 l)
+hitsAt l = hitsOf (part 0 1024 l) (part HIT-XS 1024 l) (part HIT-YS 1024 l) (part HIT-TAGS 1024 l)
 
--- a tuple's object and place at an entry
+-- a tuple's object, place and tag at an entry
 abbrev pub putHit : Hits → ℕ → Seen → Hits
-putHit h i t = hitsOf (set (h .oid) i (t .oid)) (set (h .x) i (t .x)) (set (h .y) i (t .y))
+putHit h i t = hitsOf (set (h .oid) i (t .oid)) (set (h .x) i (t .x)) (set (h .y) i (t .y)) (set (h .tag) i (t .tag))
 
 -- Look object k up in n entries from i on: the first that matches is meant.
 unfoldable pub lookFrom : List ℕ → ℕ → ℕ → ℕ → Option ℕ

@@ -1,5 +1,5 @@
-// The results of range queries (document 01: the lists of the sweeps): object, x and y of each hit, 256 entries for each of four queries.
-// One list of three columns, objects, x and y, of 1,024 numbers each, those of query l from entry 256 × l on. Its length is the caller's to check.
+// The results of range queries (document 01: the lists of the sweeps): object, x, y and tag of each hit, 256 entries for each of four queries.
+// One list of four columns, objects, x, y and tags, of 1,024 numbers each, those of query l from entry 256 × l on. Its length is the caller's to check.
 ghost use mathlib.Core.Path.{_≡_};
 ghost use Prim.Native.Nat.{_<_, _≤_, _+_};
 ghost use lib.ListN.{length};
@@ -7,6 +7,7 @@ ghost use Rattle.base.specs.Lent.{old, new};
 ghost use Rattle.hits.specs.Hits.{hitsAt, putHit, lookFrom, Finds, note, Notes};
 ghost use Rattle.words.specs.Map.{HITS-SIZE};
 use slots::tuple::Seen;
+use words::HIT_TAGS;
 use words::HIT_XS;
 use words::HIT_YS;
 
@@ -52,7 +53,7 @@ pub fn find_hit(hits: &[u32], from: usize, size: usize, oid: u32) -> Lookup
     }
 }
 
-// Writes a tuple's object and place over an entry.
+// Writes a tuple's object, place and tag over an entry.
 fn put_hit(list: &mut [u32], at: usize, t: Seen)
     requires { ⌜ (length (now list) ≡ HITS-SIZE) × (at < 1024) ⌝ }
     ensures { λ r. ⌜ putHit (hitsAt (old list)) at t ≡ hitsAt (new list) ⌝ }
@@ -60,6 +61,7 @@ fn put_hit(list: &mut [u32], at: usize, t: Seen)
     list[at] = t.oid;
     list[HIT_XS + at] = t.x;
     list[HIT_YS + at] = t.y;
+    list[HIT_TAGS + at] = t.tag;
 }
 
 // Notes a tuple in a query's list: a current one is added or replaces its object's entry, a deleted one is added if its object is not listed.

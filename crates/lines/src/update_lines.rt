@@ -17,7 +17,16 @@ pub fn update_line(
     ensures { λ r. ⌜ OnGrid words times (AnswersUpdate line updaters r) ⌝ }
 {
     match line {
-        UpdateLine::Start(u) => update_start(updaters, u.lane, u.oid, u.x, u.y, words, times),
+        UpdateLine::Start(u) => update_start(
+            updaters,
+            u.lane,
+            u.oid,
+            u.x,
+            u.y,
+            u.tag,
+            words,
+            times,
+        ),
         UpdateLine::Step(lane) => update_step(updaters, lane, words, times),
     }
 }

@@ -95,7 +95,7 @@ abbrev pub put : (ℕ → ℕ → Tuple) → ℕ → ℕ → Tuple → ℕ → �
 put t b i v = upd t b (upd (t b) i v)
 
 abbrev pub to : Updater → Stage → Updater
-to a s = record { oid = a .oid; x = a .x; y = a .y; stage = s }
+to a s = record { oid = a .oid; x = a .x; y = a .y; tag = a .tag; stage = s }
 
 abbrev pub putLane : ℕ → Updater → Stage → St → St
 putLane l a s d = withLanes d (upd (d .lanes) l (to a s))
@@ -194,7 +194,7 @@ stage8 l a d =
     let c = cellOf (a .x) (a .y) in
     need (d .known k)
     (fork (inCell (d .ent k .cur) c)
-    (λ p. need (ltb (d .clock) 2147483647) (on l a ReleaseObject (withClock (withTup d (put (d .tup) (p .bucket) (p .slot) (record { oid = d .tup (p .bucket) (p .slot) .oid; x = a .x; y = a .y; time = pos (suc (d .clock)) }))) (suc (d .clock)))))
+    (λ p. need (ltb (d .clock) 2147483647) (on l a ReleaseObject (withClock (withTup d (put (d .tup) (p .bucket) (p .slot) (record { oid = d .tup (p .bucket) (p .slot) .oid; x = a .x; y = a .y; tag = a .tag; time = pos (suc (d .clock)) }))) (suc (d .clock)))))
     (need (ltb c 256)
     (pick (eqb (d .cellLock c) 0)
     (on l a MakeRoom (withCellLock d (upd (d .cellLock) c (suc l))))
@@ -219,7 +219,7 @@ stage9 O l a d =
     (on l a WriteTuple d))))
 
 abbrev pub newTuple : Updater → ℕ → Tuple
-newTuple a t = record { oid = a .oid; x = a .x; y = a .y; time = pos (suc t) }
+newTuple a t = record { oid = a .oid; x = a .x; y = a .y; tag = a .tag; time = pos (suc t) }
 
 unfoldable pub stage10 : ℕ → Updater → St → Option Out
 stage10 l a d =
@@ -245,7 +245,7 @@ stage12 l a p d =
     fork (d .ent k .cur) (λ q. on l a (DeleteOld q) d₁) (on l a ReleaseObject d₁))
 
 abbrev pub flagged : Tuple → ℕ → Tuple
-flagged t n = record { oid = t .oid; x = t .x; y = t .y; time = negsuc n }
+flagged t n = record { oid = t .oid; x = t .x; y = t .y; tag = t .tag; time = negsuc n }
 
 unfoldable pub stage13 : ℕ → Updater → Place → St → Option Out
 stage13 l a q d =
@@ -303,12 +303,13 @@ unfoldable pub queryStep : ℕ → ℕ → Option ℕ → St → Option Out
 queryStep q c none d = enterAt q c d
 queryStep q c (some b) d = readAt q b (d .queries q .left) d
 
-unfoldable pub begin : ℕ → ℕ → ℕ → ℕ → St → Option Out
-begin l k x y d =
+unfoldable pub begin : ℕ → ℕ → ℕ → ℕ → ℕ → St → Option Out
+begin l k x y m d =
     pick (not (ltb l 8)) (some (d, 1))
     (pick (not (isIdle (d .lanes l .stage))) (some (d, 2))
     (pick (eqb k 0) (some (d, 4))
     (pick (not (ltb x 16384 && ltb y 16384)) (some (d, 5))
+    (pick (not (leb m 9)) (some (d, 31))
     (pick (not (d .known k) && leb 256 (d .size)) (some (d, 7))
     (pick (leb 2147483600 (d .clock)) (some (d, 8))
-    (some (withLanes (withSize (withKnown d (upd (d .known) k true)) (pick (d .known k) (d .size) (suc (d .size)))) (upd (d .lanes) l (record { oid = k; x = x; y = y; stage = TakeObject })), 0)))))))
+    (some (withLanes (withSize (withKnown d (upd (d .known) k true)) (pick (d .known k) (d .size) (suc (d .size)))) (upd (d .lanes) l (record { oid = k; x = x; y = y; tag = m; stage = TakeObject })), 0))))))))

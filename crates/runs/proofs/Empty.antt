@@ -64,7 +64,7 @@ record Blank (d : St) : Type 0 where
   pub lanes : (l : ℕ) → d .lanes l .stage ≡ Idle
   pub queries : (q : ℕ) → d .queries q .bucket ≡ none
 
-tuple-blank : (b i : ℕ) (t : Bool) → natAbs ((pick {A = Tuple} t (record { oid = at (replicate 2048 0) (4 * b + i); x = at (replicate 2048 0) (4 * b + i); y = at (replicate 2048 0) (4 * b + i); time = getD (replicate 2048 (pos 0)) (4 * b + i) (pos 0) }) (record { oid = 0; x = 0; y = 0; time = pos 0 })) .time) ≡ 0
+tuple-blank : (b i : ℕ) (t : Bool) → natAbs ((pick {A = Tuple} t (record { oid = at (replicate 2048 0) (4 * b + i); x = at (replicate 2048 0) (4 * b + i); y = at (replicate 2048 0) (4 * b + i); tag = at (replicate 2048 0) (4 * b + i); time = getD (replicate 2048 (pos 0)) (4 * b + i) (pos 0) }) (record { oid = 0; x = 0; y = 0; tag = 0; time = pos 0 })) .time) ≡ 0
 unfolding pick
 tuple-blank b i true = ap natAbs (all-same 2048 (4 * b + i) (pos 0))
 tuple-blank b i false = refl
@@ -155,6 +155,7 @@ empty-shape =
             owners = length-replicate {A = ℕ} 2048 0;
             xs = length-replicate {A = ℕ} 2048 0;
             ys = length-replicate {A = ℕ} 2048 0;
+            tags = length-replicate {A = ℕ} 2048 0;
             times = length-replicate {A = ℤ} 2048 (pos 0);
             oids = sound-empty .oid-length;
             locks = sound-empty .lock-length;
@@ -164,6 +165,7 @@ empty-shape =
             hits = length-replicate {A = ℕ} 1024 0;
             hitxs = length-replicate {A = ℕ} 1024 0;
             hitys = length-replicate {A = ℕ} 1024 0;
+            hittags = length-replicate {A = ℕ} 1024 0;
           };
       updaters = length-replicate 8 idleUpdater;
       queries = length-replicate 4 idleQuery;

@@ -144,12 +144,12 @@ stamp-good (pos n) p m = ne-eqb n 0 (λ e. omega arith)
 stamp-good (negsuc n) p m = ne-eqb n 2147483647 (λ e. omega arith)
 
 -- a known object that is not listed: the list is not full
-module _ {kn : ℕ → Type 0} (R : Numbered kn) (h : Hits) (o# : length (h .oid) ≡ 1024) (x# : length (h .x) ≡ 1024) (y# : length (h .y) ≡ 1024) (q n : ℕ) (q< : q < 4) (L : Listed kn (h .oid) q n) (k : ℕ) (known : kn k) where
+module _ {kn : ℕ → Type 0} (R : Numbered kn) (h : Hits) (o# : length (h .oid) ≡ 1024) (x# : length (h .x) ≡ 1024) (y# : length (h .y) ≡ 1024) (m# : length (h .tag) ≡ 1024) (q n : ℕ) (q< : q < 4) (L : Listed kn (h .oid) q n) (k : ℕ) (known : kn k) where
   not-full : (unlisted (lookFrom (h .oid) k n (256 * q)) && leb 256 n) ≡ false
   not-full = by-look (lookFrom (h .oid) k n (256 * q)) refl
     where
       by-look : (o : Option ℕ) → lookFrom (h .oid) k n (256 * q) ≡ o → (unlisted o && leb 256 n) ≡ false
-      by-look none e = lt-leb 256 n (room R h o# x# y# q n q< L (record { oid = k; x = 0; y = 0; deleted = false; time = 0 }) known (λ j j<. look-no (h .oid) k n (256 * q) j e j<))
+      by-look none e = lt-leb 256 n (room R h o# x# y# m# q n q< L (record { oid = k; x = 0; y = 0; tag = 0; deleted = false; time = 0 }) known (λ j j<. look-no (h .oid) k n (256 * q) j e j<))
       by-look (some i) e = refl
 
 -- ---- the causes of a step, none of which holds
@@ -265,4 +265,4 @@ module _ (g : Grid) (G : Good g) (q : ℕ) (q< : q < 4) where
       let p = k .written (r - 1) (omega (arith, left)) in
       let known : T (view g .known (at (t .tuples .oid) (4 * b + (r - 1)))) = rw same at (I .young .heard b (r - 1) p) in
       let stamp : badStamp (view g .tup b (r - 1) .time) ≡ false = stamp-good (view g .tup b (r - 1) .time) p (I .young .range b (r - 1)) in
-      read-clear t q s c few v b b< r r≤ (o .0 .stamped) (o .1 .few) (rw same at stamp) (not-full (numbered (I .ranks)) (t .hits) (Z .hits) (Z .hitxs) (Z .hitys) q (s .hits) q< (o .1) _ known) _))
+      read-clear t q s c few v b b< r r≤ (o .0 .stamped) (o .1 .few) (rw same at stamp) (not-full (numbered (I .ranks)) (t .hits) (Z .hits) (Z .hitxs) (Z .hitys) (Z .hittags) q (s .hits) q< (o .1) _ known) _))

@@ -47,4 +47,5 @@ module _ (g : Grid) (G : Good g) where
       let on = on-grid-from (v .x) (v .y) (omega (arith, w .2), omega (arith, w .3)) in (
         ap (λ (x : Tuple). cellOf (x .x) (x .y)) (sym same) ∙ w .0,
         ap (λ (x : Tuple). onGrid (x .x) (x .y)) (sym same) ∙ on,
+        rw same at (w .4),
       )

@@ -29,7 +29,7 @@ use Rattle.runs.proofs.View.{view, tupF}
 
 -- the tuples with their times wound back
 abbrev woundTuples : Tuples → Tuples
-woundTuples d = tuplesOf (d .oid) (d .x) (d .y) (map woundStamp (d .time))
+woundTuples d = tuplesOf (d .oid) (d .x) (d .y) (d .tag) (map woundStamp (d .time))
 
 module _ (d : Tuples) (b i : ℕ) where
   time-wound : tupF (woundTuples d) b i .time ≡ woundStamp (tupF d b i .time)
@@ -47,6 +47,10 @@ module _ (d : Tuples) (b i : ℕ) where
   same-y : tupF (woundTuples d) b i .y ≡ tupF d b i .y
   unfolding tupF pick
   same-y = by-test (ltb i 4) (λ e. rw e) (λ e. rw e)
+
+  same-tag : tupF (woundTuples d) b i .tag ≡ tupF d b i .tag
+  unfolding tupF pick
+  same-tag = by-test (ltb i 4) (λ e. rw e) (λ e. rw e)
 
   stands-wound : stands (tupF (woundTuples d) b i .time) ≡ stands (tupF d b i .time)
   stands-wound = ap stands time-wound ∙ above-wound (tupF d b i .time)
@@ -84,6 +88,7 @@ module _ (g : Grid) (G : Good g) where
     oid = same-oid d;
     x = same-x d;
     y = same-y d;
+    tag = same-tag d;
     pos = λ b i t. subst T (sym (stands-wound d b i)) t;
     neg = λ b i t. subst T (sym (stood-wound d b i)) t;
     none = λ b i h. omega (arith, ap natAbs (time-wound d b i), abs-wound (tupF d b i .time) .1);

@@ -5,7 +5,7 @@ use mathlib.Core.Logic.{_≢_}
 use mathlib.Core.Bool.{true}
 use mathlib.Core.Option.{Option, some}
 use mathlib.Core.List.{List}
-use Prim.Native.Nat.{ℕ, _<_}
+use Prim.Native.Nat.{ℕ, _<_, _≤_}
 use Rattle.base.specs.Lists.{In}
 use Rattle.base.specs.Outcome.{done}
 use Rattle.base.specs.Table.{at}
@@ -30,10 +30,11 @@ pub record Reached (t : Tables) : Type 0 where
   pub current : (i : ℕ) → Entered t i → (p : Option Place) × (decode (at (t .index .current) i) ≡ done p)
   pub previous : (i : ℕ) → Entered t i → (p : Option Place) × (decode (at (t .index .previous) i) ≡ done p)
 
--- A TUPLE IS ON THE GRID AND LIES IN THE CELL OF ITS COORDINATES: in every slot below the count of a bucket that
--- walking a cell finds.
+-- A TUPLE IS ON THE GRID, LIES IN THE CELL OF ITS COORDINATES AND HAS A TAG UP TO 9: in every slot below the count of
+-- a bucket that walking a cell finds.
 abbrev pub InTheirCells : Tables → Type 0
 InTheirCells t =
     (p : Place) (chain : List ℕ) → p .cell < 256 → chainOf (t .first) (t .next) (p .cell) ≡ some chain
     → In (p .bucket) chain → p .slot < at (t .count) (p .bucket)
     → (cellOf (tupleOf t p .x) (tupleOf t p .y) ≡ p .cell) × (onGrid (tupleOf t p .x) (tupleOf t p .y) ≡ true)
+    × (tupleOf t p .tag ≤ 9)

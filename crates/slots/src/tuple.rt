@@ -18,14 +18,16 @@ use base::BUCKET_COUNT;
 use base::BUCKET_SLOTS;
 use base::Change;
 use base::LAST_STAMP;
+use words::TUPLE_TAGS;
 use words::TUPLE_XS;
 use words::TUPLE_YS;
 
-// A tuple with its stamp taken apart.
+// A tuple with its stamp taken apart. The tag is the object's load mark (document 02), as it was reported with the place.
 pub struct Seen {
     pub oid: u32,
     pub x: u32,
     pub y: u32,
+    pub tag: u32,
     pub deleted: bool,
     pub time: u32,
 }
@@ -55,7 +57,7 @@ pub fn in_range(time: u32) -> bool
     true
 }
 
-// Reads the tuple at a slot. Objects, x and y stand one after the other in one list, a column each.
+// Reads the tuple at a slot. Objects, x, y and tags stand one after the other in one list, a column each.
 pub fn read_tuple(tuples: &[u32], times: &[i32], bucket: u32, slot: u32) -> TupleRead
     requires { ⌜ (length (now tuples) ≡ TUPLES-SIZE) × (length (now times) ≡ TIMES) ⌝ }
     ensures { λ r. ⌜ tells seenValues (read (tuplesAt (old tuples) (old times)) bucket slot) ≡ tupleReadSays r ⌝ }
@@ -75,6 +77,7 @@ pub fn read_tuple(tuples: &[u32], times: &[i32], bucket: u32, slot: u32) -> Tupl
             oid: tuples[i],
             x: tuples[TUPLE_XS + i],
             y: tuples[TUPLE_YS + i],
+            tag: tuples[TUPLE_TAGS + i],
             deleted: false,
             time: t,
         }),
@@ -82,20 +85,22 @@ pub fn read_tuple(tuples: &[u32], times: &[i32], bucket: u32, slot: u32) -> Tupl
             oid: tuples[i],
             x: tuples[TUPLE_XS + i],
             y: tuples[TUPLE_YS + i],
+            tag: tuples[TUPLE_TAGS + i],
             deleted: true,
             time: t,
         }),
     }
 }
 
-// Writes object, x and y over those at an entry.
-fn put_tuple(tuples: &mut [u32], at: usize, oid: u32, x: u32, y: u32)
+// Writes object, x, y and tag over those at an entry.
+fn put_tuple(tuples: &mut [u32], at: usize, oid: u32, x: u32, y: u32, tag: u32)
     requires { ⌜ (length (now tuples) ≡ TUPLES-SIZE) × (at < 2048) ⌝ }
-    ensures { λ r. ⌜ ((ts : List ℤ) → putWords (tuplesAt (old tuples) ts) at oid x y ≡ tuplesAt (new tuples) ts) ⌝ }
+    ensures { λ r. ⌜ ((ts : List ℤ) → putWords (tuplesAt (old tuples) ts) at oid x y tag ≡ tuplesAt (new tuples) ts) ⌝ }
 {
     tuples[at] = oid;
     tuples[TUPLE_XS + at] = x;
     tuples[TUPLE_YS + at] = y;
+    tuples[TUPLE_TAGS + at] = tag;
 }
 
 // Copies a tuple over another.
@@ -127,7 +132,8 @@ pub fn copy_tuple(
     let oid = tuples[from];
     let x = tuples[TUPLE_XS + from];
     let y = tuples[TUPLE_YS + from];
-    put_tuple(tuples, to, oid, x, y);
+    let tag = tuples[TUPLE_TAGS + from];
+    put_tuple(tuples, to, oid, x, y, tag);
     times[to] = times[from];
     Change::Done
 }
@@ -141,10 +147,11 @@ pub fn overwrite_tuple(
     oid: u32,
     x: u32,
     y: u32,
+    tag: u32,
     time: u32,
 ) -> Change
     requires { ⌜ (length (now tuples) ≡ TUPLES-SIZE) × (length (now times) ≡ TIMES) ⌝ }
-    ensures { λ r. ⌜ Changes (tuplesAt (old tuples) (old times)) (λ d. overwrite d bucket slot oid x y time) r (tuplesAt (new tuples) (new times)) ⌝ }
+    ensures { λ r. ⌜ Changes (tuplesAt (old tuples) (old times)) (λ d. overwrite d bucket slot oid x y tag time) r (tuplesAt (new tuples) (new times)) ⌝ }
 {
     if bucket >= BUCKET_COUNT {
         return Change::Corrupt;
@@ -157,7 +164,7 @@ pub fn overwrite_tuple(
     }
     let i = (BUCKET_SLOTS * bucket + slot) as usize;
     let s = current_stamp(time);
-    put_tuple(tuples, i, oid, x, y);
+    put_tuple(tuples, i, oid, x, y, tag);
     times[i] = s;
     Change::Done
 }

@@ -1,4 +1,4 @@
-// An update in progress (document 01: a report lane): its object, the place reported, and its stage.
+// An update in progress (document 01: a report lane): its object, the place reported with its tag, and its stage.
 // And the ends that several stages share.
 ghost use mathlib.Core.Path.{_≡_};
 ghost use Rattle.base.specs.Lent.{new, old};
@@ -34,6 +34,7 @@ pub struct Updater {
     pub oid: u32,
     pub x: u32,
     pub y: u32,
+    pub tag: u32,
     pub stage: Stage,
 }
 

@@ -26,7 +26,7 @@ room-either : {w : ℕ} {r : Output} → Room w r → (r .waiting ≡ w) ⊎ (r 
 room-either (waits s h k) = inl k
 room-either (handed h k) = inr k
 
-room-small : {w : ℕ} {r : Output} → Room w r → r .waiting ≤ 7872
+room-small : {w : ℕ} {r : Output} → Room w r → r .waiting ≤ 5056
 room-small (waits s h k) = omega arith
 room-small (handed h k) = omega arith
 

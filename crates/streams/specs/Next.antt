@@ -63,7 +63,7 @@ pub record NextLine (block block′ line′ : List ℕ) (p r : Progress) : Type 
   pub filled : r .filled ≤ length block′
   pub few : r .kept ≤ 61
   pub room : (r .waiting ≡ p .waiting) ⊎ (r .waiting ≡ 0)
-  pub small : r .waiting ≤ 7872
+  pub small : r .waiting ≤ 5056
   pub blocks : List (List ℕ)
   pub allowed : (later : List ℕ) → Later (r .last) later → Later (p .last) (joined blocks ++ later)
   pub lines : (later : List ℕ) → Later (r .last) later

@@ -5,5 +5,5 @@ use Prim.Native.Nat.{ℕ, _≤_}
 use Rattle.streams.specs.declared.output.Output.{Output}
 
 pub data Room (waiting : ℕ) (r : Output) : Type 0 where
-  waits : waiting ≤ 7872 → r .handed ≡ 0 → r .waiting ≡ waiting → Room waiting r
+  waits : waiting ≤ 5056 → r .handed ≡ 0 → r .waiting ≡ waiting → Room waiting r
   handed : r .handed ≡ waiting → r .waiting ≡ 0 → Room waiting r

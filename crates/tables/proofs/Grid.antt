@@ -13,7 +13,7 @@ use lib.Seq.{drop-set-lt, getD-set-same, take-all}
 use borrow.Author.Tests.{eqb-true, eqb-false, eq-eqb, ne-eqb}
 use Rattle.base.specs.Table.{at}
 use Rattle.base.proofs.Table.{by-test, clash}
-use Rattle.words.specs.Map.{CELLS, FIRST, COUNT, NEXT, READERS, TUPLES, TUPLE-XS, TUPLE-YS, TUPLES-SIZE, INDEX, INDEX-LOCKS, INDEX-CURRENT, INDEX-PREVIOUS, INDEX-SIZE, HITS, HIT-XS, HIT-YS, HITS-SIZE, CLOCK, POOL, WORDS, TIMES}
+use Rattle.words.specs.Map.{CELLS, FIRST, COUNT, NEXT, READERS, TUPLES, TUPLE-XS, TUPLE-YS, TUPLE-TAGS, TUPLES-SIZE, INDEX, INDEX-LOCKS, INDEX-CURRENT, INDEX-PREVIOUS, INDEX-SIZE, HITS, HIT-XS, HIT-YS, HIT-TAGS, HITS-SIZE, CLOCK, POOL, WORDS, TIMES}
 use Rattle.words.specs.Part.{part, put}
 use Rattle.words.specs.Words.{cellsIn, firstIn, countIn, nextIn, clockIn, poolIn, putReaders, putHits}
 use Rattle.words.proofs.Parts.{part-length, put-length, part-same, part-other, part-before, part-at, rest-after, at-after, part-set, store-set}
@@ -189,9 +189,9 @@ right-words w ts w# t# =
     let i = within w w# in
     let p : length (poolIn w) ≡ 513 = omega (arith, length-drop POOL w) in
     λ j. rightCells (l FIRST 256 (omega arith) j) (l CELLS 256 (omega arith) j) (l COUNT 512 (omega arith) j) (l NEXT 512 (omega arith) j) (l READERS 512 (omega arith) j)
-    && rightTuples (i TUPLES TUPLES-SIZE 0 2048 (omega arith) (omega arith) j) (i TUPLES TUPLES-SIZE TUPLE-XS 2048 (omega arith) (omega arith) j) (i TUPLES TUPLES-SIZE TUPLE-YS 2048 (omega arith) (omega arith) j) (t# j)
+    && rightTuples (i TUPLES TUPLES-SIZE 0 2048 (omega arith) (omega arith) j) (i TUPLES TUPLES-SIZE TUPLE-XS 2048 (omega arith) (omega arith) j) (i TUPLES TUPLES-SIZE TUPLE-YS 2048 (omega arith) (omega arith) j) (i TUPLES TUPLES-SIZE TUPLE-TAGS 2048 (omega arith) (omega arith) j) (t# j)
     && rightIndex (i INDEX INDEX-SIZE 0 512 (omega arith) (omega arith) j) (i INDEX INDEX-SIZE INDEX-LOCKS 512 (omega arith) (omega arith) j) (i INDEX INDEX-SIZE INDEX-CURRENT 512 (omega arith) (omega arith) j) (i INDEX INDEX-SIZE INDEX-PREVIOUS 512 (omega arith) (omega arith) j)
-    && rightHits (p j) (i HITS HITS-SIZE 0 1024 (omega arith) (omega arith) j) (i HITS HITS-SIZE HIT-XS 1024 (omega arith) (omega arith) j) (i HITS HITS-SIZE HIT-YS 1024 (omega arith) (omega arith) j)
+    && rightHits (p j) (i HITS HITS-SIZE 0 1024 (omega arith) (omega arith) j) (i HITS HITS-SIZE HIT-XS 1024 (omega arith) (omega arith) j) (i HITS HITS-SIZE HIT-YS 1024 (omega arith) (omega arith) j) (i HITS HITS-SIZE HIT-TAGS 1024 (omega arith) (omega arith) j)
 
 -- there are more or fewer words: the pool tells
 pub wrong-words : (w : List ℕ) (ts : List ℤ) → length w ≢ WORDS → rightLengths (grid w ts) ≡ false

@@ -23,12 +23,13 @@ fn updater_at(stage: Stage) -> Updater {
         oid: 1,
         x: 100,
         y: 100,
+        tag: 0,
         stage,
     }
 }
 
 fn start_update(words: &mut [u32], times: &[i32]) -> u32 {
-    updates::start::start_one(updater_at(Stage::Idle), 0, 1, 100, 100, words, times).number
+    updates::start::start_one(updater_at(Stage::Idle), 0, 1, 100, 100, 0, words, times).number
 }
 
 fn step_update(words: &mut [u32], times: &mut [i32]) -> u32 {
@@ -73,7 +74,7 @@ fn run_words() {
     words[OWN] = 1;
     let was = words;
     run(&mut words, &mut times);
-    say_number(b"words: ", 13825, same_numbers(&words, &was));
+    say_number(b"words: ", 16897, same_numbers(&words, &was));
 }
 
 fn run_stamps() {
@@ -91,7 +92,7 @@ fn run_right() {
     words[OWN] = 1;
     let was = words;
     run(&mut words, &mut times);
-    say_number(b"both right, words: ", 13826, same_numbers(&words, &was));
+    say_number(b"both right, words: ", 16898, same_numbers(&words, &was));
 }
 
 fn main() {

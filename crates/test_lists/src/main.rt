@@ -17,6 +17,7 @@ use test_show::put_number;
 use test_show::same_numbers;
 use test_show::write;
 use words::CLOCK;
+use words::HIT_TAGS;
 use words::HIT_XS;
 use words::HIT_YS;
 use words::HITS;
@@ -59,41 +60,41 @@ fn say_lane(name: &[u8], number: u32, lanes: [Query; 4]) {
     write(b", lane 0 not idle\n");
 }
 
-// A reading into a list of five numbers. Each lane has such a query.
-fn read_five(name: &[u8], words: &[u32], times: &[i32], lane: u32, hits: u32, stage: Scan) {
+// A reading into a list of seven numbers. Each lane has such a query.
+fn read_seven(name: &[u8], words: &[u32], times: &[i32], lane: u32, hits: u32, stage: Scan) {
     let q = query_of(hits, stage);
-    let mut out = [9u32; 5];
+    let mut out = [9u32; 7];
     let reading = read_into([q; 4], lane, &mut out, words, times);
-    let same = same_numbers(&out, &[9u32; 5]);
+    let same = same_numbers(&out, &[9u32; 7]);
     say_reading(name, reading.number, reading.steps, same);
 }
 
 // A reading of a finished query with 257 hits into a list with room for them.
 fn read_many(name: &[u8], words: &[u32], times: &[i32]) {
     let q = query_of(257, Scan::Finished);
-    let mut out = [9u32; 771];
+    let mut out = [9u32; 1028];
     let reading = read_into([q; 4], 0, &mut out, words, times);
-    let same = same_numbers(&out, &[9u32; 771]);
+    let same = same_numbers(&out, &[9u32; 1028]);
     say_reading(name, reading.number, reading.steps, same);
 }
 
-// A reading of a finished query with two hits into a list of eight numbers, of which the last two stay.
-fn read_eight(name: &[u8], words: &[u32], times: &[i32]) {
+// A reading of a finished query with two hits into a list of ten numbers, of which the last two stay.
+fn read_ten(name: &[u8], words: &[u32], times: &[i32]) {
     let q = query_of(2, Scan::Finished);
-    let mut out = [9u32; 8];
+    let mut out = [9u32; 10];
     let reading = read_into([q; 4], 0, &mut out, words, times);
-    let same = same_numbers(&out, &[7u32, 100, 200, 7, 100, 200, 9, 9]);
+    let same = same_numbers(&out, &[7u32, 100, 200, 4, 7, 100, 200, 4, 9, 9]);
     say_reading(name, reading.number, reading.steps, same);
 }
 
 // The same in the form that hands back the filled part.
 fn read_part(name: &[u8], words: &[u32], times: &[i32]) {
     let q = query_of(2, Scan::Finished);
-    let mut out = [9u32; 8];
+    let mut out = [9u32; 10];
     let mut number: u32 = 99;
     let mut steps: u32 = 99;
     let part = read([q; 4], 0, &mut out, &mut number, &mut steps, words, times);
-    let same = same_numbers(part, &[7u32, 100, 200, 7, 100, 200]);
+    let same = same_numbers(part, &[7u32, 100, 200, 4, 7, 100, 200, 4]);
     say_reading(name, number, steps, same);
 }
 
@@ -105,10 +106,10 @@ fn clear_lane(name: &[u8], words: &[u32], times: &[i32], lane: u32, hits: u32, s
     say_lane(name, swept.number, lanes);
 }
 
-// A collection of a finished query into a list of five numbers.
-fn collect_five(name: &[u8], words: &[u32], times: &[i32], hits: u32) {
+// A collection of a finished query into a list of seven numbers.
+fn collect_seven(name: &[u8], words: &[u32], times: &[i32], hits: u32) {
     let q = query_of(hits, Scan::Finished);
-    let mut out = [9u32; 5];
+    let mut out = [9u32; 7];
     let collected = collect([q; 4], 0, &mut out, words, times);
     let lanes = collected.queries;
     say_lane(name, collected.number, lanes);
@@ -117,7 +118,7 @@ fn collect_five(name: &[u8], words: &[u32], times: &[i32], hits: u32) {
 // A collection of a finished query with 257 hits into a list with room for them.
 fn collect_many(name: &[u8], words: &[u32], times: &[i32]) {
     let q = query_of(257, Scan::Finished);
-    let mut out = [9u32; 771];
+    let mut out = [9u32; 1028];
     let collected = collect([q; 4], 0, &mut out, words, times);
     let lanes = collected.queries;
     say_lane(name, collected.number, lanes);
@@ -127,17 +128,17 @@ fn collect_many(name: &[u8], words: &[u32], times: &[i32]) {
 fn run_broken(words: &[u32], times: &[i32]) {
     let less = [0u32; WORDS - 1];
     let short = [5i32; TIMES - 1];
-    read_five(
-        b"read, 13825 words, lane 4: ",
+    read_seven(
+        b"read, 16897 words, lane 4: ",
         &less,
         times,
         4,
         2,
         Scan::Finished,
     );
-    read_five(b"read, 2047 stamps: ", words, &short, 0, 2, Scan::Finished);
+    read_seven(b"read, 2047 stamps: ", words, &short, 0, 2, Scan::Finished);
     clear_lane(
-        b"clear, 13825 words, lane 4: ",
+        b"clear, 16897 words, lane 4: ",
         &less,
         times,
         4,
@@ -148,9 +149,9 @@ fn run_broken(words: &[u32], times: &[i32]) {
 }
 
 fn run_readings(words: &[u32], times: &[i32]) {
-    read_five(b"read, lane 4: ", words, times, 4, 2, Scan::Finished);
-    read_five(b"read, lane idle: ", words, times, 0, 2, Scan::Idle);
-    read_five(
+    read_seven(b"read, lane 4: ", words, times, 4, 2, Scan::Finished);
+    read_seven(b"read, lane idle: ", words, times, 0, 2, Scan::Idle);
+    read_seven(
         b"read, lane unfinished: ",
         words,
         times,
@@ -158,37 +159,37 @@ fn run_readings(words: &[u32], times: &[i32]) {
         2,
         Scan::Enter(0),
     );
-    read_five(
-        b"read, 2 hits, 5 numbers: ",
+    read_seven(
+        b"read, 2 hits, 7 numbers: ",
         words,
         times,
         0,
         2,
         Scan::Finished,
     );
-    read_five(
-        b"read, 257 hits, 5 numbers: ",
+    read_seven(
+        b"read, 257 hits, 7 numbers: ",
         words,
         times,
         0,
         257,
         Scan::Finished,
     );
-    read_many(b"read, 257 hits, 771 numbers: ", words, times);
+    read_many(b"read, 257 hits, 1028 numbers: ", words, times);
 }
 
 // 'same' says here that the list, or the part, is what it should be.
 fn run_accepted(words: &[u32], times: &[i32]) {
-    read_five(
-        b"read, no hit, 5 numbers: ",
+    read_seven(
+        b"read, no hit, 7 numbers: ",
         words,
         times,
         0,
         0,
         Scan::Finished,
     );
-    read_eight(b"read, 2 hits, 8 numbers, the list: ", words, times);
-    read_part(b"read, 2 hits, 8 numbers, the part: ", words, times);
+    read_ten(b"read, 2 hits, 10 numbers, the list: ", words, times);
+    read_part(b"read, 2 hits, 10 numbers, the part: ", words, times);
     read_part(b"read again, the part: ", words, times);
 }
 
@@ -209,17 +210,18 @@ fn run_clearings(words: &[u32], times: &[i32]) {
 }
 
 fn run_collections(words: &[u32], times: &[i32]) {
-    collect_five(b"collect, 2 hits, 5 numbers: ", words, times, 2);
-    collect_five(b"collect, 1 hit, 5 numbers: ", words, times, 1);
-    collect_many(b"collect, 257 hits, 771 numbers: ", words, times);
+    collect_seven(b"collect, 2 hits, 7 numbers: ", words, times, 2);
+    collect_seven(b"collect, 1 hit, 7 numbers: ", words, times, 1);
+    collect_many(b"collect, 257 hits, 1028 numbers: ", words, times);
 }
 
-// Every entry of every list is object 7 at (100, 200).
+// Every entry of every list is object 7 at (100, 200) with mark 4.
 fn main() {
     let mut words = [0u32; WORDS];
     fill(&mut words, HITS, HITS + HIT_XS, 7);
     fill(&mut words, HITS + HIT_XS, HITS + HIT_YS, 100);
-    fill(&mut words, HITS + HIT_YS, CLOCK, 200);
+    fill(&mut words, HITS + HIT_YS, HITS + HIT_TAGS, 200);
+    fill(&mut words, HITS + HIT_TAGS, CLOCK, 4);
     let times = [5i32; TIMES];
     run_broken(&words, &times);
     run_readings(&words, &times);

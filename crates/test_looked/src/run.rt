@@ -64,7 +64,7 @@ fn answer_call(
     words: &mut [u32],
     times: &mut [i32],
 ) -> Done
-    requires { ⌜ (8512 ≤ length (now out)) × (length (now list) ≡ 768) × (length (now words) ≡ WORDS) × (length (now times) ≡ TIMES) ⌝ }
+    requires { ⌜ (11328 ≤ length (now out)) × (length (now list) ≡ 1024) × (length (now words) ≡ WORDS) × (length (now times) ≡ TIMES) ⌝ }
 {
     let last = d.looked;
     if asks_looked(line) {
@@ -90,9 +90,9 @@ fn answer_call(
 pub fn run_calls(text: &[u8]) {
     let mut words = [0u32; WORDS];
     let mut times = [0i32; TIMES];
-    let mut list = [0u32; 768];
+    let mut list = [0u32; 1024];
     let mut line = [0u8; 61];
-    let mut out = [0u8; 8512];
+    let mut out = [0u8; 11328];
     let lanes = reset(idle_updaters(), idle_queries(), &mut words, &mut times);
     let updaters = lanes.updaters;
     let queries = lanes.queries;

@@ -21,7 +21,7 @@ use words::WORDS;
 
 // Starts an update of object 7 in lane 0 of lanes that are idle, and says its number.
 fn say_start(name: &[u8], words: &mut [u32], times: &[i32]) {
-    let stepped = update_start(idle_updaters(), 0, 7, 100, 100, words, times);
+    let stepped = update_start(idle_updaters(), 0, 7, 100, 100, 0, words, times);
     say(name, stepped.number);
 }
 
@@ -83,6 +83,7 @@ fn updaters_with(s: Stage) -> [Updater; 8] {
         oid: 7,
         x: 100,
         y: 100,
+        tag: 0,
         stage: s,
     };
     updaters

@@ -29,6 +29,7 @@ pub record Retimed (clock : ℕ) (tup tup′ : ℕ → ℕ → Tuple) : Type 0 w
   pub oid : (b i : ℕ) → tup′ b i .oid ≡ tup b i .oid
   pub x : (b i : ℕ) → tup′ b i .x ≡ tup b i .x
   pub y : (b i : ℕ) → tup′ b i .y ≡ tup b i .y
+  pub tag : (b i : ℕ) → tup′ b i .tag ≡ tup b i .tag
   pub pos : (b i : ℕ) → T (stands (tup b i .time)) → T (stands (tup′ b i .time))
   pub neg : (b i : ℕ) → T (stood (tup b i .time)) → T (stood (tup′ b i .time))
   pub none : (b i : ℕ) → 0 < natAbs (tup′ b i .time) → 0 < natAbs (tup b i .time)
@@ -90,7 +91,7 @@ module _ {O : StoreOps} {S : Store O} {g : Ghost} {d : St} (I : Inv S g d) (Q : 
         placed = record {
           inside = λ b c h i o lt.
               let t = I .placed .inside b c h i o lt in
-              (rw (R .x b i, R .y b i) (t .0), R .some b i (t .1), rw (R .x b i) (t .2), rw (R .y b i) (t .3));
+              (rw (R .x b i, R .y b i) (t .0), R .some b i (t .1), rw (R .x b i) (t .2), rw (R .y b i) (t .3), rw (R .tag b i) (t .4));
         };
         written = record { filled = λ l l< p e. let z = Q .lanes l l< in clash (cc) };
         lanes = I .lanes;

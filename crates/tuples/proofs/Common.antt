@@ -72,7 +72,7 @@ module _ {l : ℕ} {g g′ : Ghost} {d d′ : St} (a′ : Updater) (L : Local l 
       ap (λ (z : ℕ). d′ .tup z (p .slot)) (b ∙ b′) ∙ ap (d′ .tup (d′ .first c)) (i ∙ i′) ∙ sym f ∙ sym (ap (λ (z : ℕ). d .tup z (p .slot)) b ∙ ap (d .tup (d .first c)) i)
 
   pub writes : CellLocks (d .cellLock) (d .lanes) → ((j : ℕ) → j < 8 → OkAt j g d) → Written (d .tup) (d .lanes)
-      → ((p : Place) → a′ .stage ≡ RaiseCount p → (d′ .tup (p .bucket) (p .slot) .x ≡ a′ .x) × (d′ .tup (p .bucket) (p .slot) .y ≡ a′ .y)) → Written (d′ .tup) (d′ .lanes)
+      → ((p : Place) → a′ .stage ≡ RaiseCount p → (d′ .tup (p .bucket) (p .slot) .x ≡ a′ .x) × (d′ .tup (p .bucket) (p .slot) .y ≡ a′ .y) × (d′ .tup (p .bucket) (p .slot) .tag ≡ a′ .tag)) → Written (d′ .tup) (d′ .lanes)
   writes K k W m = record {
     filled = λ j j< p. at-or j l
         (λ q. let e : d′ .lanes j ≡ a′ = rw (lanesEq, q, upd-same (d .lanes) l a′) in rw e (m p))
@@ -130,11 +130,11 @@ written-put own tup b i v c h o lt e b′ i′ c′ h′ o′ w = slot-or b i b�
     }))
     (λ n. rw (put-else tup b i v b′ i′ n) w)
 
-pub placed-put : {own : ℕ → Owner} {count : ℕ → ℕ} {tup : ℕ → ℕ → Tuple} (p : Place) (h : ℕ) (v : Tuple) → own (p .bucket) ≡ inChain (p .cell) h → cellOf (v .x) (v .y) ≡ p .cell → 0 < natAbs (v .time) → v .x < 16384 → v .y < 16384
+pub placed-put : {own : ℕ → Owner} {count : ℕ → ℕ} {tup : ℕ → ℕ → Tuple} (p : Place) (h : ℕ) (v : Tuple) → own (p .bucket) ≡ inChain (p .cell) h → cellOf (v .x) (v .y) ≡ p .cell → 0 < natAbs (v .time) → v .x < 16384 → v .y < 16384 → v .tag ≤ 9
     → Placed own count tup → Placed own count (put tup (p .bucket) (p .slot) v)
-placed-put {own} {count} {tup} p h₀ v o₀ e lt x< y< P = record {
+placed-put {own} {count} {tup} p h₀ v o₀ e lt x< y< m≤ P = record {
   inside = λ b c h i o l. slot-or (p .bucket) (p .slot) b i
-      (λ e₁ e₂. let w : inChain (p .cell) h₀ ≡ inChain c h = cc in let w′ : p .cell ≡ c = cc in rw (e₁, e₂, put-same tup (p .bucket) (p .slot) v) (e ∙ w′, lt, x<, y<))
+      (λ e₁ e₂. let w : inChain (p .cell) h₀ ≡ inChain c h = cc in let w′ : p .cell ≡ c = cc in rw (e₁, e₂, put-same tup (p .bucket) (p .slot) v) (e ∙ w′, lt, x<, y<, m≤))
       (λ n. rw (put-else tup (p .bucket) (p .slot) v b i n) (P .inside b c h i o l));
 }
 

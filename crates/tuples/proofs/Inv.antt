@@ -196,7 +196,7 @@ OkAt l g d =
     Ok l (a .oid) (goal a) (a .stage) (d .ent (a .oid)) (g .gh (a .oid)) (d .ent (mv (a .oid) (a .stage))) (g .gh (mv (a .oid) (a .stage))) (topOf (d .first) (d .count) (d .tup) (cl (goal a) (a .stage))) (g .own (bk (a .stage)))
 
 pub record Lanes (known : ℕ → Bool) (lanes : ℕ → Updater) : Type 0 where
-  pub fine : (l : ℕ) → l < 8 → lanes l .stage ≢ Idle → T (known (lanes l .oid)) × (lanes l .x < 16384) × (lanes l .y < 16384)
+  pub fine : (l : ℕ) → l < 8 → lanes l .stage ≢ Idle → T (known (lanes l .oid)) × (lanes l .x < 16384) × (lanes l .y < 16384) × (lanes l .tag ≤ 9)
 
 pub record CellLocks (cellLock : ℕ → ℕ) (lanes : ℕ → Updater) : Type 0 where
   pub mine : (l : ℕ) → l < 8 → T (celHeld (lanes l .stage)) → cellLock (cl (goal (lanes l)) (lanes l .stage)) ≡ suc l
@@ -242,9 +242,9 @@ pub record Young (tup : ℕ → ℕ → Tuple) (known : ℕ → Bool) (clock : �
   pub young : (b i : ℕ) → T (stood (tup b i .time)) → natAbs (tup b i .time) ≤ clock
   pub heard : (b i : ℕ) → 0 < natAbs (tup b i .time) → T (known (tup b i .oid))
 
--- every live slot's tuple lies in its cell, has a time, and is on the grid
+-- every live slot's tuple lies in its cell, has a time, is on the grid, and has a tag up to 9
 pub record Placed (own : ℕ → Owner) (count : ℕ → ℕ) (tup : ℕ → ℕ → Tuple) : Type 0 where
-  pub inside : (b c h i : ℕ) → own b ≡ inChain c h → i < count b → (cellOf (tup b i .x) (tup b i .y) ≡ c) × (0 < natAbs (tup b i .time)) × (tup b i .x < 16384) × (tup b i .y < 16384)
+  pub inside : (b c h i : ℕ) → own b ≡ inChain c h → i < count b → (cellOf (tup b i .x) (tup b i .y) ≡ c) × (0 < natAbs (tup b i .time)) × (tup b i .x < 16384) × (tup b i .y < 16384) × (tup b i .tag ≤ 9)
 
 -- the numbers of the chains' tables are in their ranges, whether the bucket is in a chain or not
 pub record Bounded (first next count : ℕ → ℕ) : Type 0 where
@@ -252,9 +252,9 @@ pub record Bounded (first next count : ℕ → ℕ) : Type 0 where
   pub nexts : (b : ℕ) → next b ≤ 512
   pub counts : (b : ℕ) → count b ≤ 4
 
--- the tuple that stage 10 wrote, not yet counted, is at the reported place
+-- the tuple that stage 10 wrote, not yet counted, is at the reported place, with the tag reported
 pub record Written (tup : ℕ → ℕ → Tuple) (lanes : ℕ → Updater) : Type 0 where
-  pub filled : (l : ℕ) → l < 8 → (p : Place) → lanes l .stage ≡ RaiseCount p → (tup (p .bucket) (p .slot) .x ≡ lanes l .x) × (tup (p .bucket) (p .slot) .y ≡ lanes l .y)
+  pub filled : (l : ℕ) → l < 8 → (p : Place) → lanes l .stage ≡ RaiseCount p → (tup (p .bucket) (p .slot) .x ≡ lanes l .x) × (tup (p .bucket) (p .slot) .y ≡ lanes l .y) × (tup (p .bucket) (p .slot) .tag ≡ lanes l .tag)
 
 -- the clock has room for every draw to come
 pub record Ticks (clock : ℕ) (lanes : ℕ → Updater) : Type 0 where

@@ -8,7 +8,7 @@ use mathlib.Core.Bool.{Bool, true, false, not, _&&_}
 use mathlib.Core.Option.{Option, none, some}
 use Prim.Native.Nat.{ℕ, zero, suc, _≤_, _<_}
 use native.Mathlib.Omega.{arith}
-use lib.Dec.{T, leb, ltb, ltb→lt, nleb→lt}
+use lib.Dec.{T, leb, ltb, ltb→lt, leb→le, nleb→lt}
 use Rattle.base.specs.Table.{upd}
 use Rattle.base.proofs.Table.{upd-same, upd-other, at-or, clash}
 use Rattle.base.specs.Outcome.{pick}
@@ -102,9 +102,9 @@ ranked known size R k room = go (known k) refl
         }
 
 -- ---- start
-module _ {O : StoreOps} {S : Store O} {g : Ghost} {d : St} (I : Inv S g d) (l : ℕ) (l< : l < 8) (st : d .lanes l .stage ≡ Idle) (k x y : ℕ) (x< : x < 16384) (y< : y < 16384) (room : T (not (not (d .known k) && leb 256 (d .size)))) (early : d .clock < 2147483600) where
+module _ {O : StoreOps} {S : Store O} {g : Ghost} {d : St} (I : Inv S g d) (l : ℕ) (l< : l < 8) (st : d .lanes l .stage ≡ Idle) (k x y m : ℕ) (x< : x < 16384) (y< : y < 16384) (m≤ : m ≤ 9) (room : T (not (not (d .known k) && leb 256 (d .size)))) (early : d .clock < 2147483600) where
   abbrev a : Updater
-  a = record { oid = k; x = x; y = y; stage = TakeObject }
+  a = record { oid = k; x = x; y = y; tag = m; stage = TakeObject }
 
   abbrev started : St
   started = withLanes (withSize (withKnown d (upd (d .known) k true)) (pick (d .known k) (d .size) (suc (d .size)))) (upd (d .lanes) l a)
@@ -133,8 +133,8 @@ module _ {O : StoreOps} {S : Store O} {g : Ghost} {d : St} (I : Inv S g d) (l : 
         ranks = ranked (d .known) (d .size) (I .ranks) k room;
         lanes = record {
           fine = λ j j<. at-or j l
-              (λ q. rw (q, upd-same (d .lanes) l a) (λ _. (rw (upd-same (d .known) k true) tt, x<, y<)))
-              (λ q. rw (upd-other (d .lanes) l a j q) (λ z. let t = I .lanes .fine j j< z in (more _ (t .0), t .1, t .2)));
+              (λ q. rw (q, upd-same (d .lanes) l a) (λ _. (rw (upd-same (d .known) k true) tt, x<, y<, m≤)))
+              (λ q. rw (upd-other (d .lanes) l a j q) (λ z. let t = I .lanes .fine j j< z in (more _ (t .0), t .1, t .2, t .3)));
         };
         cells = cells-step a l< (still l _) (λ z. absurd z) (λ c z. absurd (cell-his I l l< Idle st c z .0)) (I .cells);
         objs = objs-step a l< (still l _) (λ z. absurd z) (λ z. absurd z)
@@ -164,11 +164,11 @@ module _ {O : StoreOps} (S : Store O) where
   Changed l g d o = Ends (λ (r : Out). (g′ : Ghost) × Inv S g′ (r .0) × Effect l g d g′ (r .0)) ⊥ o
 
   module _ (g : Ghost) (d : St) (I : Inv S g d) where
-    pub keeps-begin : (l k x y : ℕ) → Ends (λ (r : Out). Inv S g (r .0)) ⊥ (begin l k x y d)
+    pub keeps-begin : (l k x y m : ℕ) → Ends (λ (r : Out). Inv S g (r .0)) ⊥ (begin l k x y m d)
     unfolding begin
-    keeps-begin l k x y = ends-pick _ _ _ (λ _. done I) (λ t₁. ends-pick _ _ _ (λ _. done I) (λ t₂. ends-pick _ _ _ (λ _. done I) (λ _. ends-pick _ _ _ (λ _. done I)
-        (λ t₃. ends-pick _ _ _ (λ _. done I) (λ t₄. ends-pick _ _ _ (λ _. done I) (λ t₅. let u = T-and-split (ltb x 16384) (ltb y 16384) (T-stable (ltb x 16384 && ltb y 16384) t₃) in
-        done (begun I l (ltb→lt _ _ (T-stable (ltb l 8) t₁)) (is-idle _ (T-stable (isIdle (d .lanes l .stage)) t₂)) k x y (ltb→lt _ _ (u .0)) (ltb→lt _ _ (u .1)) t₄ (nleb→lt _ _ t₅))))))))
+    keeps-begin l k x y m = ends-pick _ _ _ (λ _. done I) (λ t₁. ends-pick _ _ _ (λ _. done I) (λ t₂. ends-pick _ _ _ (λ _. done I) (λ _. ends-pick _ _ _ (λ _. done I)
+        (λ t₃. ends-pick _ _ _ (λ _. done I) (λ t₆. ends-pick _ _ _ (λ _. done I) (λ t₄. ends-pick _ _ _ (λ _. done I) (λ t₅. let u = T-and-split (ltb x 16384) (ltb y 16384) (T-stable (ltb x 16384 && ltb y 16384) t₃) in
+        done (begun I l (ltb→lt _ _ (T-stable (ltb l 8) t₁)) (is-idle _ (T-stable (isIdle (d .lanes l .stage)) t₂)) k x y m (ltb→lt _ _ (u .0)) (ltb→lt _ _ (u .1)) (leb→le _ _ (T-stable (leb m 9) t₆)) t₄ (nleb→lt _ _ t₅)))))))))
 
     pub by-stage : (l : ℕ) → l < 8 → (s : Stage) → d .lanes l .stage ≡ s → Changed l g d (doStage O l (d .lanes l) d s)
     unfolding doStage

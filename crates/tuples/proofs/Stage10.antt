@@ -10,7 +10,7 @@ use mathlib.Core.Path.{_≡_, refl, sym, ap, _∙_}
 use mathlib.Core.Logic.{_≢_, inl, inr}
 use mathlib.Core.Bool.{false}
 use mathlib.Core.Option.{none, some}
-use Prim.Native.Nat.{ℕ, suc, _<_}
+use Prim.Native.Nat.{ℕ, suc, _≤_, _<_}
 use native.Mathlib.Omega.{arith}
 use lib.Dec.{T, lt→ltb}
 use Rattle.base.specs.Table.{upd}
@@ -87,7 +87,7 @@ module _ {O : StoreOps} {S : Store O} {g : Ghost} {d : St} (I : Inv S g d) (l : 
           free = freed L (λ j z z′. z′) (λ j z z′. absurd (omega arith)) (I .free);
           ok = oks (to (d .lanes l) (RaiseCount (pl c f n))) L refl (I .cells) (I .objs) (I .ok)
               (gk, out, f<, n<, refl, rw (put-same (d .tup) f n v), rw (put-same (d .tup) f n v) (stands-suc (d .clock)), rw (put-same (d .tup) f n v));
-          written = writes (to (d .lanes l) (RaiseCount (pl c f n))) L refl (I .cells) (I .ok) (I .written) (λ q z. let y : pl c f n ≡ q = cc in rw (← y, put-same (d .tup) f n v) (refl, refl));
+          written = writes (to (d .lanes l) (RaiseCount (pl c f n))) L refl (I .cells) (I .ok) (I .written) (λ q z. let y : pl c f n ≡ q = cc in rw (← y, put-same (d .tup) f n v) (refl, refl, refl));
           ranks = I .ranks;
           loose = I .loose;
           bounded = I .bounded;
@@ -153,6 +153,7 @@ module _ {O : StoreOps} {S : Store O} {g : Ghost} {d : St} (I : Inv S g d) (l : 
           let at-place = I .written .filled l l< p st in
           let x< : d .tup (p .bucket) (p .slot) .x < 16384 = rw (at-place .0) (fine .1) in
           let y< : d .tup (p .bucket) (p .slot) .y < 16384 = rw (at-place .1) (fine .2) in
+          let m≤ : d .tup (p .bucket) (p .slot) .tag ≤ 9 = rw (at-place .2) (fine .3) in
           let lockK = own-locked I l l< (RaiseCount p) st tt in
           let owned : g .own (p .bucket) ≡ inChain (p .cell) (H .h) = rw (bf, pc) (H .owned) in
           let cn : d .count (p .bucket) ≡ p .slot = rw (bf, sn) in
@@ -190,7 +191,7 @@ module _ {O : StoreOps} {S : Store O} {g : Ghost} {d : St} (I : Inv S g d) (l : 
             young = I .young;
             placed = record {
               inside = λ b c′ h i o lt. slot-or (p .bucket) (p .slot) b i
-                  (λ e₁ e₂. let ww : inChain (p .cell) (H .h) ≡ inChain c′ h = cc in let w′ : p .cell ≡ c′ = cc in rw (e₁, e₂, bf, sn) (here ∙ sym pc ∙ w′, timed (d .tup f n .time) pos′, rw (bf, sn) at x<, rw (bf, sn) at y<))
+                  (λ e₁ e₂. let ww : inChain (p .cell) (H .h) ≡ inChain c′ h = cc in let w′ : p .cell ≡ c′ = cc in rw (e₁, e₂, bf, sn) (here ∙ sym pc ∙ w′, timed (d .tup f n .time) pos′, rw (bf, sn) at x<, rw (bf, sn) at y<, rw (bf, sn) at m≤))
                   (λ ne. I .placed .inside b c′ h i o (at-or b (p .bucket)
                   (λ e. let lt′ : i < suc (d .count (p .bucket)) = rw (e, upd-same (d .count) (p .bucket) (suc (d .count (p .bucket)))) at lt in let nn = ne e in rw e (omega arith))
                   (λ e. rw (upd-other (d .count) (p .bucket) (suc (d .count (p .bucket))) b e) at lt)));
@@ -249,7 +250,7 @@ module _ {O : StoreOps} {S : Store O} {g : Ghost} {d : St} (I : Inv S g d) (l : 
     pub keeps11 : Ends (λ (r : Out). (g′ : Ghost) × Inv S g′ (r .0) × Effect l g d g′ (r .0)) ⊥ (stage11 l (d .lanes l) p d)
     unfolding stage11 Ok mv cl bk
     keeps11 =
-        let sp : spotOf (d .tup (p .bucket) (p .slot)) ≡ aim (d .lanes l) = let x = I .written .filled l l< p st in rw (x .0, x .1) in
+        let sp : spotOf (d .tup (p .bucket) (p .slot)) ≡ aim (d .lanes l) = let x = I .written .filled l l< p st in rw (x .0, x .1, x .2) in
         let w = at-stage I l l< (RaiseCount p) st in
         let e : p .bucket ≡ f = ap (λ (z : Place). z .bucket) (w .4) in
         let e₂ : p .slot ≡ n = ap (λ (z : Place). z .slot) (w .4) in

@@ -126,7 +126,7 @@ module _ {O : StoreOps} {S : Store O} {g : Ghost} {d : St} (I : Inv S g d) (l : 
         bounded = I .bounded;
         reading = reading-step (λ b q c h₁ _ _ o. o) (let u = I .placed .inside f (p .cell) (h .tall .h) (n - 1) (h .tall .owned) (omega (arith, h .n>)) in written-put (g .own) (d .tup) (p .bucket) (p .slot) (d .tup f (n - 1)) (p .cell) (h .pLives .h) (h .pLives .owned) (u .1) (u .0, u .2, u .3)) (I .reading);
         young = young-put (d .clock) (p .bucket) (p .slot) (d .tup f (n - 1)) (omega arith) (I .young .range _ _) (I .young .young _ _) (I .young .heard _ _) (I .young);
-        placed = (let u = I .placed .inside f (p .cell) (h .tall .h) (n - 1) (h .tall .owned) (omega (arith, h .n>)) in placed-put p (h .pLives .h) (d .tup f (n - 1)) (h .pLives .owned) (u .0) (u .1) (u .2) (u .3) (I .placed));
+        placed = (let u = I .placed .inside f (p .cell) (h .tall .h) (n - 1) (h .tall .owned) (omega (arith, h .n>)) in placed-put p (h .pLives .h) (d .tup f (n - 1)) (h .pLives .owned) (u .0) (u .1) (u .2) (u .3) (u .4) (I .placed));
         ticks = ticks-step (to (d .lanes l) (LowerCount p m)) l< (rw st (omega arith)) (I .ticks);
         lanes = lanes-step (LowerCount p m) l< (λ e. clash (cc)) (I .lanes);
         cells = cells-step (to (d .lanes l) (LowerCount p m)) l< (still l _) (cell-locked I l l< (CopyLast p m) st) (cell-his I l l< (CopyLast p m) st) (I .cells);

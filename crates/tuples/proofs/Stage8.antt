@@ -134,7 +134,7 @@ module _ {O : StoreOps} {S : Store O} {g : Ghost} {d : St} (I : Inv S g d) (l : 
           bounded = I .bounded;
           reading = reading-step (λ b q c h₁ _ _ o. o) (written-put (g .own) (d .tup) (q .bucket) (q .slot) v (q .cell) (t .0 .h) (t .0 .owned) (omega arith) (let u = I .placed .inside (q .bucket) (q .cell) (t .0 .h) (q .slot) (t .0 .owned) (t .0 .low) in (u .0, u .2, u .3))) (I .reading);
           young = young-put (suc (d .clock)) (q .bucket) (q .slot) v (omega arith) (omega (arith, clock-below I l l< (rw st (omega arith)))) (λ _. omega arith) (λ _. rw (t .1) (t .2)) (I .young);
-          placed = (let u = I .placed .inside (q .bucket) (q .cell) (t .0 .h) (q .slot) (t .0 .owned) (t .0 .low) in placed-put q (t .0 .h) v (t .0 .owned) (u .0) (omega arith) (u .2) (u .3) (I .placed));
+          placed = (let u = I .placed .inside (q .bucket) (q .cell) (t .0 .h) (q .slot) (t .0 .owned) (t .0 .low) in placed-put q (t .0 .h) v (t .0 .owned) (u .0) (omega arith) (u .2) (u .3) (u .4) (I .placed));
           ticks = ticks-step (to (d .lanes l) ReleaseObject) l< (rw st (omega arith)) (I .ticks);
           lanes = lanes-step ReleaseObject l< (λ z. clash (cc)) (I .lanes);
           cells = cells-keep I l l< (DeleteOld q) ReleaseObject st refl refl;
@@ -161,10 +161,10 @@ module _ {O : StoreOps} {S : Store O} {g : Ghost} {d : St} (I : Inv S g d) (l : 
 
     -- the new place is in the current cell
     over : (p : Place) → d .ent k .cur ≡ some p → g .gh k ≡ plain (d .ent k) → d .ent k .prev ≡ none → p .cell ≡ c
-        → Inv S g (putLane l (d .lanes l) ReleaseObject (withClock (withTup d (put (d .tup) (p .bucket) (p .slot) (record { oid = d .tup (p .bucket) (p .slot) .oid; x = d .lanes l .x; y = d .lanes l .y; time = pos (suc (d .clock)) }))) (suc (d .clock))))
+        → Inv S g (putLane l (d .lanes l) ReleaseObject (withClock (withTup d (put (d .tup) (p .bucket) (p .slot) (record { oid = d .tup (p .bucket) (p .slot) .oid; x = d .lanes l .x; y = d .lanes l .y; tag = d .lanes l .tag; time = pos (suc (d .clock)) }))) (suc (d .clock))))
     unfolding Ok mv cl bk sel celHeld ownHeld movHeld filling draws
     over p pe gk np pc =
-        let v : Tuple = record { oid = d .tup (p .bucket) (p .slot) .oid; x = d .lanes l .x; y = d .lanes l .y; time = pos (suc (d .clock)) } in
+        let v : Tuple = record { oid = d .tup (p .bucket) (p .slot) .oid; x = d .lanes l .x; y = d .lanes l .y; tag = d .lanes l .tag; time = pos (suc (d .clock)) } in
         let t = I .slots .back kCur k p (rw gk pe) in
         let fine = I .lanes .fine l l< (λ z. clash (cc)) in
         let lockK = own-locked I l l< ChooseCell st tt in
@@ -201,7 +201,7 @@ module _ {O : StoreOps} {S : Store O} {g : Ghost} {d : St} (I : Inv S g d) (l : 
           bounded = I .bounded;
           reading = reading-step (λ b q c h₁ _ _ o. o) (written-put (g .own) (d .tup) (p .bucket) (p .slot) v (p .cell) (t .0 .h) (t .0 .owned) (omega arith) (sym pc, fine .1, fine .2)) (I .reading);
           young = young-put (suc (d .clock)) (p .bucket) (p .slot) v (omega arith) (omega (arith, clock-below I l l< (rw st (omega arith)))) (λ _. omega arith) (λ _. rw (t .1) (t .2)) (I .young);
-          placed = placed-put p (t .0 .h) v (t .0 .owned) (sym pc) (omega arith) (fine .1) (fine .2) (I .placed);
+          placed = placed-put p (t .0 .h) v (t .0 .owned) (sym pc) (omega arith) (fine .1) (fine .2) (fine .3) (I .placed);
           ticks = ticks-step (to (d .lanes l) ReleaseObject) l< (rw st (omega arith)) (I .ticks);
           lanes = lanes-step ReleaseObject l< (λ z. clash (cc)) (I .lanes);
           cells = cells-keep I l l< ChooseCell ReleaseObject st refl refl;
@@ -240,7 +240,7 @@ module _ {O : StoreOps} {S : Store O} {g : Ghost} {d : St} (I : Inv S g d) (l : 
         }
 
     abbrev over-v : Place → Tuple
-    over-v p = record { oid = d .tup (p .bucket) (p .slot) .oid; x = d .lanes l .x; y = d .lanes l .y; time = pos (suc (d .clock)) }
+    over-v p = record { oid = d .tup (p .bucket) (p .slot) .oid; x = d .lanes l .x; y = d .lanes l .y; tag = d .lanes l .tag; time = pos (suc (d .clock)) }
 
     own-cur : g .gh k ≡ plain (d .ent k) → (p : Place) → d .ent k .cur ≡ some p → sel kCur (g .gh k) ≡ some p
     unfolding sel

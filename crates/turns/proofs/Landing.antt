@@ -75,7 +75,7 @@ module _ (t : Tables) (o : ℕ) (u : Updater) (s : Stage) where
   unfolding stageOn stage7On
   erases p m q = known (ErasePlace p m) q
 
-  pub chooses : s ≡ ChooseCell → turned t (stageOn t o u s) ≡ turned t (stage8On t (u .oid) (u .x) (u .y) o)
+  pub chooses : s ≡ ChooseCell → turned t (stageOn t o u s) ≡ turned t (stage8On t (u .oid) (u .x) (u .y) (u .tag) o)
   unfolding stageOn stage8On
   chooses q = known ChooseCell q
 
@@ -83,7 +83,7 @@ module _ (t : Tables) (o : ℕ) (u : Updater) (s : Stage) where
   unfolding stageOn
   makes-room q = known MakeRoom q
 
-  pub writes : s ≡ WriteTuple → turned t (stageOn t o u s) ≡ turned t (stage10On t (u .oid) (u .x) (u .y))
+  pub writes : s ≡ WriteTuple → turned t (stageOn t o u s) ≡ turned t (stage10On t (u .oid) (u .x) (u .y) (u .tag))
   unfolding stageOn
   writes q = known WriteTuple q
 

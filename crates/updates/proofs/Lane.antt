@@ -27,11 +27,12 @@ module _ (t : Tables) (us : List Updater) (l : ℕ) where
   entered u blocked = stays idleUpdater t us l 12
   entered u (done d) = refl
 
-  pub start-in : (k x y : ℕ) → after t us (updateStart t us l k x y) ≡ placed us l (after t lane (startOne t l lane k x y))
+  pub start-in : (k x y m : ℕ) → after t us (updateStart t us l k x y m) ≡ placed us l (after t lane (startOne t l lane k x y m))
   unfolding updateStart startOne
-  start-in k x y =
+  start-in k x y m =
       past idleUpdater t us l _ 12 _ _ (past idleUpdater t us l _ 1 _ _ (past idleUpdater t us l _ 2 _ _ (past idleUpdater t us l _ 4 _ _
-      (past idleUpdater t us l _ 5 _ _ (past idleUpdater t us l _ 7 _ _ (past idleUpdater t us l _ 8 _ _ (entered _ _)))))))
+      (past idleUpdater t us l _ 5 _ _ (past idleUpdater t us l _ 31 _ _ (past idleUpdater t us l _ 7 _ _ (past idleUpdater t us l _ 8 _ _
+      (entered _ _))))))))
 
   pub step-in : after t us (updateStep t us l) ≡ placed us l (after t lane (stepOne t l lane))
   unfolding updateStep stepOne
@@ -41,9 +42,9 @@ module _ (t : Tables) (us : List Updater) (l : ℕ) where
 
   -- a lane that is none
   module _ (h : 8 ≤ l) (n : ℕ) (e : n ≡ pick (rightLengths t) 1 12) where
-    pub start-none : (k x y : ℕ) → after t us (updateStart t us l k x y) ≡ afterOf n t us
+    pub start-none : (k x y m : ℕ) → after t us (updateStart t us l k x y m) ≡ afterOf n t us
     unfolding updateStart
-    start-none k x y = rw (le-ltb l 8 h, e) (no-such t us (rightLengths t) _)
+    start-none k x y m = rw (le-ltb l 8 h, e) (no-such t us (rightLengths t) _)
 
     pub step-none : after t us (updateStep t us l) ≡ afterOf n t us
     unfolding updateStep

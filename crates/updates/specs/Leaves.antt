@@ -13,8 +13,8 @@ use Rattle.calls.specs.Call.{After}
 use Rattle.updates.specs.Update.{idleUpdater}
 
 -- an update that has just been accepted
-abbrev pub reported : ℕ → ℕ → ℕ → Updater
-reported k x y = record { oid = k; x = x; y = y; stage = TakeObject }
+abbrev pub reported : ℕ → ℕ → ℕ → ℕ → Updater
+reported k x y m = record { oid = k; x = x; y = y; tag = m; stage = TakeObject }
 
 -- Lane l has the update u, every other lane is as it was, object k is entered, and nothing else has changed.
 pub record Started (t : Tables) (us : List Updater) (l : ℕ) (u : Updater) (k : ℕ) (a : After (List Updater)) : Type 0 where

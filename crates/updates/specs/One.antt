@@ -2,9 +2,9 @@
 -- That the calls over all lanes are these, in that lane, is proofs/Lane.antt.
 use mathlib.Core.Bool.{not}
 use Prim.Native.Nat.{ℕ, suc}
-use lib.Dec.{eqb, ltb}
+use lib.Dec.{eqb, leb, ltb}
 use Rattle.base.specs.Numbers.{DONE, NO-SUCH-LANE, LANE-TAKEN, LANE-IDLE}
-use Rattle.base.specs.Numbers.{NO-OBJECT, OFF-GRID, GRID-FULL, CLOCK-EXHAUSTED, CORRUPT}
+use Rattle.base.specs.Numbers.{NO-OBJECT, OFF-GRID, TAG-OVER, GRID-FULL, CLOCK-EXHAUSTED, CORRUPT}
 use Rattle.base.specs.Outcome.{Outcome, corrupt, blocked, done}
 use Rattle.layout.specs.Place.{onGrid}
 use Rattle.index.specs.Search.{search}
@@ -30,14 +30,15 @@ startedOne t u corrupt = refused CORRUPT
 startedOne t u blocked = refused CORRUPT
 startedOne t u (done d) = answered DONE (withIndex t d) u
 
--- A start of an update of object k, to stand at (x, y), in lane l, where the update u is.
-unfoldable pub startOne : Tables → ℕ → Updater → ℕ → ℕ → ℕ → Result Updater
-startOne t l u k x y =
+-- A start of an update of object k, to stand at (x, y) with tag m, in lane l, where the update u is.
+unfoldable pub startOne : Tables → ℕ → Updater → ℕ → ℕ → ℕ → ℕ → Result Updater
+startOne t l u k x y m =
     unless (rightLengths t) CORRUPT
     (unless (ltb l 8) NO-SUCH-LANE
     (unless (isIdle (u .stage)) LANE-TAKEN
     (unless (not (eqb k 0)) NO-OBJECT
     (unless (onGrid x y) OFF-GRID
+    (unless (leb m 9) TAG-OVER
     (unless (hasRoom (search (t .index .oid) k) (t .index .oid)) GRID-FULL
     (unless (ltb (t .clock) 2147483600) CLOCK-EXHAUSTED
-    (startedOne t (record { oid = k; x = x; y = y; stage = TakeObject }) (enter (t .index) k))))))))
+    (startedOne t (record { oid = k; x = x; y = y; tag = m; stage = TakeObject }) (enter (t .index) k)))))))))

@@ -13,17 +13,17 @@ use Rattle.updates.specs.One.{startOne, stepOne}
 use Rattle.updates.specs.declared.lanes.Stepped.{Stepped}
 use Rattle.updates.specs.declared.lanes.SteppedOne.{SteppedOne}
 
--- A START of an update of object k, to stand at (x, y), in lane l.
-abbrev pub Starts : List Updater → ℕ → ℕ → ℕ → ℕ → Stepped → Tables → Tables → Type 0
-Starts us l k x y r t t′ = after t us (updateStart t us l k x y) ≡ afterOf (r .number) t′ (r .updaters)
+-- A START of an update of object k, to stand at (x, y) with tag m, in lane l.
+abbrev pub Starts : List Updater → ℕ → ℕ → ℕ → ℕ → ℕ → Stepped → Tables → Tables → Type 0
+Starts us l k x y m r t t′ = after t us (updateStart t us l k x y m) ≡ afterOf (r .number) t′ (r .updaters)
 
 -- A STEP of the update in lane l.
 abbrev pub Steps : List Updater → ℕ → Stepped → Tables → Tables → Type 0
 Steps us l r t t′ = after t us (updateStep t us l) ≡ afterOf (r .number) t′ (r .updaters)
 
 -- The same of one lane, in which the update u is.
-abbrev pub StartsOne : Updater → ℕ → ℕ → ℕ → ℕ → SteppedOne → Tables → Tables → Type 0
-StartsOne u l k x y r t t′ = after t u (startOne t l u k x y) ≡ afterOf (r .number) t′ (r .updater)
+abbrev pub StartsOne : Updater → ℕ → ℕ → ℕ → ℕ → ℕ → SteppedOne → Tables → Tables → Type 0
+StartsOne u l k x y m r t t′ = after t u (startOne t l u k x y m) ≡ afterOf (r .number) t′ (r .updater)
 
 abbrev pub StepsOne : Updater → ℕ → SteppedOne → Tables → Tables → Type 0
 StepsOne u l r t t′ = after t u (stepOne t l u) ≡ afterOf (r .number) t′ (r .updater)

@@ -23,10 +23,12 @@ use base::Change;
 use base::DONE;
 use base::GRID_FULL;
 use base::LANE_TAKEN;
+use base::LAST_TAG;
 use base::MOST_OBJECTS;
 use base::NO_OBJECT;
 use base::NO_SUCH_LANE;
 use base::OFF_GRID;
+use base::TAG_OVER;
 use base::UPDATER_COUNT;
 use calls::no_lane;
 use index::search::Search;
@@ -61,17 +63,18 @@ fn enter_there(words: &mut [u32], s: Search, oid: u32) -> Change
     enter_at(&mut words[INDEX..HITS], s, oid)
 }
 
-// Starts an update of an object's place in a lane, given by value. Gives 0, or is refused with 12 (lengths), 1, 2, 4, 5, 7 or 8.
+// Starts an update of an object's place and tag in a lane, given by value. Gives 0, or is refused with 12 (lengths), 1, 2, 4, 5, 31, 7 or 8.
 pub fn start_one(
     u: Updater,
     lane: u32,
     oid: u32,
     x: u32,
     y: u32,
+    tag: u32,
     words: &mut [u32],
     times: &[i32],
 ) -> SteppedOne
-    ensures { λ r. ⌜ OnGrid words times (StartsOne u lane oid x y r) ⌝ }
+    ensures { λ r. ⌜ OnGrid words times (StartsOne u lane oid x y tag r) ⌝ }
 {
     if !right_words(words.len(), times.len()) {
         return SteppedOne {
@@ -104,6 +107,12 @@ pub fn start_one(
             updater: u,
         };
     }
+    if tag > LAST_TAG {
+        return SteppedOne {
+            number: TAG_OVER,
+            updater: u,
+        };
+    }
     let place = seek_object(words, oid);
     if !has_room(words, place) {
         return SteppedOne {
@@ -125,24 +134,31 @@ pub fn start_one(
         };
     };
     let stage = Stage::TakeObject;
-    let updater = Updater { oid, x, y, stage };
+    let updater = Updater {
+        oid,
+        x,
+        y,
+        tag,
+        stage,
+    };
     SteppedOne {
         number: DONE,
         updater,
     }
 }
 
-// Starts an update of an object's place in one of the lanes: what `start_one` does there.
+// Starts an update of an object's place and tag in one of the lanes: what `start_one` does there.
 pub fn update_start(
     updaters: [Updater; 8],
     lane: u32,
     oid: u32,
     x: u32,
     y: u32,
+    tag: u32,
     words: &mut [u32],
     times: &[i32],
 ) -> Stepped
-    ensures { λ r. ⌜ OnGrid words times (Starts updaters lane oid x y r) ⌝ }
+    ensures { λ r. ⌜ OnGrid words times (Starts updaters lane oid x y tag r) ⌝ }
 {
     if lane >= UPDATER_COUNT {
         let number = no_lane(words.len(), times.len());
@@ -150,7 +166,7 @@ pub fn update_start(
     }
     let at = lane as usize;
     let u = updaters[at];
-    let one = start_one(u, lane, oid, x, y, words, times);
+    let one = start_one(u, lane, oid, x, y, tag, words, times);
     let v = one.updater;
     let mut next = updaters;
     next[at] = v;

@@ -26,6 +26,7 @@ fn put_stage(u: Updater, number: u32, s: Stage) -> SteppedOne
         oid: u.oid,
         x: u.x,
         y: u.y,
+        tag: u.tag,
         stage: s,
     };
     SteppedOne { number, updater }

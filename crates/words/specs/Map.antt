@@ -19,7 +19,7 @@ NEXT = 1024
 abbrev pub READERS : ℕ
 READERS = 1536
 
--- the tuples but for their stamps: a column for the objects, one for x, one for y
+-- the tuples but for their stamps: a column for the objects, one for x, one for y, one for the tags
 abbrev pub TUPLES : ℕ
 TUPLES = 2048
 
@@ -29,13 +29,16 @@ TUPLE-XS = 2048
 abbrev pub TUPLE-YS : ℕ
 TUPLE-YS = 4096
 
+abbrev pub TUPLE-TAGS : ℕ
+TUPLE-TAGS = 6144
+
 -- how many numbers they are
 abbrev pub TUPLES-SIZE : ℕ
-TUPLES-SIZE = 6144
+TUPLES-SIZE = 8192
 
 -- the object index: a column for the objects, one for their locks, one for current and one for previous places
 abbrev pub INDEX : ℕ
-INDEX = 8192
+INDEX = 10240
 
 abbrev pub INDEX-LOCKS : ℕ
 INDEX-LOCKS = 512
@@ -49,9 +52,9 @@ INDEX-PREVIOUS = 1536
 abbrev pub INDEX-SIZE : ℕ
 INDEX-SIZE = 2048
 
--- the hits of the queries: a column for the objects, one for x, one for y
+-- the hits of the queries: a column for the objects, one for x, one for y, one for the tags
 abbrev pub HITS : ℕ
-HITS = 10240
+HITS = 12288
 
 abbrev pub HIT-XS : ℕ
 HIT-XS = 1024
@@ -59,19 +62,22 @@ HIT-XS = 1024
 abbrev pub HIT-YS : ℕ
 HIT-YS = 2048
 
+abbrev pub HIT-TAGS : ℕ
+HIT-TAGS = 3072
+
 abbrev pub HITS-SIZE : ℕ
-HITS-SIZE = 3072
+HITS-SIZE = 4096
 
 abbrev pub CLOCK : ℕ
-CLOCK = 13312
+CLOCK = 16384
 
 -- the bucket pool
 abbrev pub POOL : ℕ
-POOL = 13313
+POOL = 16385
 
 -- how many words there are, and how many stamps in the list beside them
 abbrev pub WORDS : ℕ
-WORDS = 13826
+WORDS = 16898
 
 abbrev pub TIMES : ℕ
 TIMES = 2048

@@ -20,7 +20,7 @@ nextIn w = part NEXT 512 w
 abbrev pub readersIn : List ℕ → List ℕ
 readersIn w = part READERS 512 w
 
--- objects, x and y of the tuples, one after the other
+-- objects, x, y and tags of the tuples, one after the other
 abbrev pub tuplesIn : List ℕ → List ℕ
 tuplesIn w = part TUPLES TUPLES-SIZE w
 
@@ -28,7 +28,7 @@ tuplesIn w = part TUPLES TUPLES-SIZE w
 abbrev pub indexIn : List ℕ → List ℕ
 indexIn w = part INDEX INDEX-SIZE w
 
--- objects, x and y of the hits
+-- objects, x, y and tags of the hits
 abbrev pub hitsIn : List ℕ → List ℕ
 hitsIn w = part HITS HITS-SIZE w
 

@@ -13,15 +13,17 @@ pub const NEXT: usize = 1024;
 
 pub const READERS: usize = 1536;
 
-// The tuples but for their stamps: a column for the objects, one for x, one for y.
+// The tuples but for their stamps: a column for the objects, one for x, one for y, one for the tags.
 pub const TUPLES: usize = 2048;
 
 pub const TUPLE_XS: usize = 2048;
 
 pub const TUPLE_YS: usize = 4096;
 
+pub const TUPLE_TAGS: usize = 6144;
+
 // The object index: a column for the objects, one for their locks, one for current and one for previous places.
-pub const INDEX: usize = 8192;
+pub const INDEX: usize = 10240;
 
 pub const INDEX_LOCKS: usize = 512;
 
@@ -31,20 +33,22 @@ pub const INDEX_PREVIOUS: usize = 1536;
 
 pub const INDEX_SIZE: usize = 2048;
 
-// The hits of the queries: a column for the objects, one for x, one for y.
-pub const HITS: usize = 10240;
+// The hits of the queries: a column for the objects, one for x, one for y, one for the tags.
+pub const HITS: usize = 12288;
 
 pub const HIT_XS: usize = 1024;
 
 pub const HIT_YS: usize = 2048;
 
-pub const CLOCK: usize = 13312;
+pub const HIT_TAGS: usize = 3072;
+
+pub const CLOCK: usize = 16384;
 
 // The bucket pool.
-pub const POOL: usize = 13313;
+pub const POOL: usize = 16385;
 
 // How many words there are, and how many stamps in the slice beside them.
-pub const WORDS: usize = 13826;
+pub const WORDS: usize = 16898;
 
 pub const TIMES: usize = 2048;
 

@@ -33,23 +33,23 @@ module _ (t t′ : Tables) (x y : ℕ) (g : onGrid x y ≡ true) (c : ℕ) (c= :
   room-made r e q = rw (g, sym c=) (turns-after (withChains t) t t′ (makeRoomOn t c) WriteTuple r e q)
 
 -- stage 10: as write_tuple ends
-pub write-off : (t : Tables) (k x y : ℕ) → onGrid x y ≡ false → turned t (stage10On t k x y) ≡ (said 12 none, t)
+pub write-off : (t : Tables) (k x y m : ℕ) → onGrid x y ≡ false → turned t (stage10On t k x y m) ≡ (said 12 none, t)
 unfolding stage10 need
-write-off t k x y g = halts (withDrawn t) t (stage10 (t .first) (t .count) (drawnOf (t .tuples) (t .clock)) k x y) t (rw g) refl
+write-off t k x y m g = halts (withDrawn t) t (stage10 (t .first) (t .count) (drawnOf (t .tuples) (t .clock)) k x y m) t (rw g) refl
 
-module _ (t : Tables) (k x y : ℕ) (g : onGrid x y ≡ true) (n : ℕ) (n= : t .clock ≡ n) where
-  pub write-late : 2147483647 ≤ n → turned t (stage10On t k x y) ≡ (said 12 none, t)
+module _ (t : Tables) (k x y m : ℕ) (g : onGrid x y ≡ true) (n : ℕ) (n= : t .clock ≡ n) where
+  pub write-late : 2147483647 ≤ n → turned t (stage10On t k x y m) ≡ (said 12 none, t)
   unfolding stage10 draw need
-  write-late h = halts (withDrawn t) t (stage10 (t .first) (t .count) (drawnOf (t .tuples) (t .clock)) k x y) t (rw (g, n=, le-ltb n 2147483647 h)) refl
+  write-late h = halts (withDrawn t) t (stage10 (t .first) (t .count) (drawnOf (t .tuples) (t .clock)) k x y m) t (rw (g, n=, le-ltb n 2147483647 h)) refl
 
   module _ (n< : n < 2147483647) (t′ : Tables) (c : ℕ) (c= : c ≡ cellOf x y) where
-    pub write-lost : writeOn t c k x y (n + 1) ≡ corrupt → t′ ≡ t → turned t (stage10On t k x y) ≡ (said 12 none, t′)
+    pub write-lost : writeOn t c k x y m (n + 1) ≡ corrupt → t′ ≡ t → turned t (stage10On t k x y m) ≡ (said 12 none, t′)
     unfolding stage10 draw need andThen
-    write-lost e q = halts (withDrawn t) t (stage10 (t .first) (t .count) (drawnOf (t .tuples) (t .clock)) k x y) t′ (rw (g, n=, lt-ltb n 2147483647 n<, sym c=, e)) q
+    write-lost e q = halts (withDrawn t) t (stage10 (t .first) (t .count) (drawnOf (t .tuples) (t .clock)) k x y m) t′ (rw (g, n=, lt-ltb n 2147483647 n<, sym c=, e)) q
 
     -- u: the tables when the tuple is written, and the clock is not yet
-    pub write-done : (p : Place) (w : Writing) → writeOn t c k x y (n + 1) ≡ done w → w .place ≡ p → (u : Tables) → withTuples t (w .tuples) ≡ u → t′ ≡ withClock u (n + 1) → turned t (stage10On t k x y) ≡ (said 0 (some (RaiseCount p)), t′)
+    pub write-done : (p : Place) (w : Writing) → writeOn t c k x y m (n + 1) ≡ done w → w .place ≡ p → (u : Tables) → withTuples t (w .tuples) ≡ u → t′ ≡ withClock u (n + 1) → turned t (stage10On t k x y m) ≡ (said 0 (some (RaiseCount p)), t′)
     unfolding stage10 draw need andThen
     write-done p w e f u q r =
-        moves (withDrawn t) t (stage10 (t .first) (t .count) (drawnOf (t .tuples) (t .clock)) k x y) t′ 0 (RaiseCount p) (drawnOf (w .tuples) (n + 1))
+        moves (withDrawn t) t (stage10 (t .first) (t .count) (drawnOf (t .tuples) (t .clock)) k x y m) t′ 0 (RaiseCount p) (drawnOf (w .tuples) (n + 1))
         (rw (g, n=, lt-ltb n 2147483647 n<, sym c=, e, f)) (r ∙ ap (λ (v : Tables). withClock v (n + 1)) (sym q))

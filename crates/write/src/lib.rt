@@ -30,9 +30,9 @@ pub fn make_room_stage(words: &mut [u32], x: u32, y: u32) -> Turn
 }
 
 // stage 10: the tuple is written with a new stamp, and goes uncounted yet.
-pub fn write_new(words: &mut [u32], times: &mut [i32], oid: u32, x: u32, y: u32) -> Turn
+pub fn write_new(words: &mut [u32], times: &mut [i32], oid: u32, x: u32, y: u32, tag: u32) -> Turn
     requires { ⌜ (length (now words) ≡ WORDS) × (length (now times) ≡ TIMES) ⌝ }
-    ensures { λ r. ⌜ OnGrid words times (Turns (λ t. stage10On t oid x y) r) ⌝ }
+    ensures { λ r. ⌜ OnGrid words times (Turns (λ t. stage10On t oid x y tag) r) ⌝ }
 {
     if !on_grid(x, y) {
         return Turn::Corrupt;
@@ -43,7 +43,7 @@ pub fn write_new(words: &mut [u32], times: &mut [i32], oid: u32, x: u32, y: u32)
     }
     let time = last + 1;
     let cell = cell_of(x, y);
-    let written = write_tuple(words, times, cell, oid, x, y, time);
+    let written = write_tuple(words, times, cell, oid, x, y, tag, time);
     let Written::At(place) = written else {
         return Turn::Corrupt;
     };

@@ -36,7 +36,7 @@ returns c =
     let at-overwrite-tuple = c .before .before .before in
     let s = at-overwrite-tuple .before .before .before .before in
     within nothing (withTuples (grid (now (s .args .words)) (now (s .args .times))))
-    ((grid (now (s .args .words)) (now (s .args .times))) .tuples) (overwrite _ _ _ _ _ _ _) _
+    ((grid (now (s .args .words)) (now (s .args .times))) .tuples) (overwrite _ _ _ _ _ _ _ _) _
     (tuplesAt (at-overwrite-tuple .overwrite-tuple .last .0)
     (at-overwrite-tuple .overwrite-tuple .last .1 .0)) _ (at-overwrite-tuple .overwrite-tuple .ensures)
     (put-tuples (now (s .args .words)) (now (s .args .times)) (s .pre .0)

@@ -104,10 +104,10 @@ returns-3 c =
     let b = bucket k in
     let e = ended-corrupt nothing (withTuples (grid w ts)) (grid w ts)
     (grid (at-overwrite-slot .overwrite-slot .last .0) (at-overwrite-slot .overwrite-slot .last .1 .0))
-    (overwriteOn (grid w ts) _ _ _ _ _ _)
+    (overwriteOn (grid w ts) _ _ _ _ _ _ _)
     (rw (c .enum-told2 .given .1) at (at-overwrite-slot .overwrite-slot .ensures)) in
     unwritten (grid w ts) (s .args .cell) b (at w (COUNT + b)) (first k .is ts)
-    (count-at w ts b (first k .bucket<)) _ _ _ _ (at-if1 .if1 .left) (e .0) _ (e .1)
+    (count-at w ts b (first k .bucket<)) _ _ _ _ _ (at-if1 .if1 .left) (e .0) _ (e .1)
 
 same-length-5 : tie.Need-same-length-5
 same-length-5 c = search needs
@@ -126,10 +126,10 @@ returns-4 c =
     let b = bucket k in
     let e = ended-done nothing (withTuples (grid w ts)) (grid w ts)
     (grid (at-overwrite-slot .overwrite-slot .last .0) (at-overwrite-slot .overwrite-slot .last .1 .0))
-    (overwriteOn (grid w ts) _ _ _ _ _ _)
+    (overwriteOn (grid w ts) _ _ _ _ _ _ _)
     (rw (c .enum-told3 .given .1) at (at-overwrite-slot .overwrite-slot .ensures)) in
     written (grid w ts) (s .args .cell) b (at w (COUNT + b)) (first k .is ts)
-    (count-at w ts b (first k .bucket<)) _ _ _ _ (at-if1 .if1 .left) (e .0) (e .1) _ (e .3)
+    (count-at w ts b (first k .bucket<)) _ _ _ _ _ (at-if1 .if1 .left) (e .0) (e .1) _ (e .3)
 
 pub write-tuple-spec : {M : Type 1} → statement M
 write-tuple-spec =

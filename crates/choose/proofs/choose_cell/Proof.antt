@@ -44,7 +44,7 @@ returns c =
     let at-current-place = at-cell-of .before in
     let s = at-current-place .before .before .before in
     choose-other (grid (now (s .args .words)) (now (s .args .times))) (s .args .oid) (s .args .x) (s .args .y)
-    (s .args .owner) (at-cell-of .cell-of .ensures) _ _ _
+    (s .args .tag) (s .args .owner) (at-cell-of .cell-of .ensures) _ _ _
     (read-at (hereOn (grid (now (s .args .words)) (now (s .args .times))) (s .args .oid) (s .args .x)
     (s .args .y)) (at-current-place .current-place .result) _
     (at-current-place .current-place .ensures (now (s .args .times))) (at-here .here .given .1))
@@ -61,7 +61,7 @@ returns-2 c =
     let at-current-place = c .before .before .before in
     let s = at-current-place .before .before .before in
     choose-corrupt (grid (now (s .args .words)) (now (s .args .times))) (s .args .oid) (s .args .x) (s .args .y)
-    (s .args .owner) (read-corrupt (hereOn (grid (now (s .args .words)) (now (s .args .times))) (s .args .oid)
+    (s .args .tag) (s .args .owner) (read-corrupt (hereOn (grid (now (s .args .words)) (now (s .args .times))) (s .args .oid)
     (s .args .x) (s .args .y)) (at-current-place .current-place .result)
     (at-current-place .current-place .ensures (now (s .args .times))) (c .enum-told .given .1))
 
@@ -75,7 +75,7 @@ returns-3 c =
     let at-current-place = at-cell-of .before in
     let s = at-current-place .before .before .before in
     choose-nowhere (grid (now (s .args .words)) (now (s .args .times))) (s .args .oid) (s .args .x) (s .args .y)
-    (s .args .owner) (at-cell-of .cell-of .ensures) _ _
+    (s .args .tag) (s .args .owner) (at-cell-of .cell-of .ensures) _ _
     (read-nowhere (hereOn (grid (now (s .args .words)) (now (s .args .times))) (s .args .oid) (s .args .x)
     (s .args .y)) (at-current-place .current-place .result)
     (at-current-place .current-place .ensures (now (s .args .times))) (at-enum-told2 .enum-told2 .given .1))
@@ -96,7 +96,7 @@ returns-4 c =
     let at-current-place = at-cell-of .before in
     let s = at-current-place .before .before .before in
     choose-same (grid (now (s .args .words)) (now (s .args .times))) (s .args .oid) (s .args .x) (s .args .y)
-    (s .args .owner) (at-cell-of .cell-of .ensures) _ _ _
+    (s .args .tag) (s .args .owner) (at-cell-of .cell-of .ensures) _ _ _
     (read-at (hereOn (grid (now (s .args .words)) (now (s .args .times))) (s .args .oid) (s .args .x)
     (s .args .y)) (at-current-place .current-place .result) _
     (at-current-place .current-place .ensures (now (s .args .times))) (at-here .here .given .1))

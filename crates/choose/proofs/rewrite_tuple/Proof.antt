@@ -19,7 +19,7 @@ returns : tie.Need-returns
 returns c =
     let s = c .before .before .before in
     rewrite-late (grid (now (s .args .words)) (now (s .args .times))) (s .args .place) (s .args .oid) (s .args .x)
-    (s .args .y) (at (now (s .args .words)) CLOCK) (clock-at (now (s .args .words)) (now (s .args .times)))
+    (s .args .y) (s .args .tag) (at (now (s .args .words)) CLOCK) (clock-at (now (s .args .words)) (now (s .args .times)))
     (c .if1 .taken)
 
 add-time : tie.Need-add-time
@@ -43,7 +43,7 @@ returns-2 c =
     let at-if1 = at-overwrite-slot .before .before .before in
     let s = at-if1 .before .before .before in
     rewrite-lost (grid (now (s .args .words)) (now (s .args .times))) (s .args .place) (s .args .oid) (s .args .x)
-    (s .args .y) (at (now (s .args .words)) CLOCK) (clock-at (now (s .args .words)) (now (s .args .times)))
+    (s .args .y) (s .args .tag) (at (now (s .args .words)) CLOCK) (clock-at (now (s .args .words)) (now (s .args .times)))
     (at-if1 .if1 .left) (grid (at-overwrite-slot .overwrite-slot .last .0)
     (at-overwrite-slot .overwrite-slot .last .1 .0))
     (rw (c .enum-told .given .1) at (at-overwrite-slot .overwrite-slot .ensures))
@@ -66,7 +66,7 @@ returns-3 c =
     let at-if1 = at-overwrite-slot .before .before .before in
     let s = at-if1 .before .before .before in
     rewrite-done (grid (now (s .args .words)) (now (s .args .times))) (s .args .place) (s .args .oid) (s .args .x)
-    (s .args .y) (at (now (s .args .words)) CLOCK) (clock-at (now (s .args .words)) (now (s .args .times)))
+    (s .args .y) (s .args .tag) (at (now (s .args .words)) CLOCK) (clock-at (now (s .args .words)) (now (s .args .times)))
     (at-if1 .if1 .left) (grid (at-overwrite-slot .overwrite-slot .last .0)
     (at-overwrite-slot .overwrite-slot .last .1 .0))
     (rw (c .enum-told2 .given .1) at (at-overwrite-slot .overwrite-slot .ensures)) _

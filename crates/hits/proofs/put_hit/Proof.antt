@@ -1,4 +1,4 @@
--- put_hit writes over the three columns of the list: the law of Putting.antt.
+-- put_hit writes over the four columns of the list: the law of Putting.antt.
 use denote.Ref.{now}
 use lib.ListN.{length-set}
 use native.Mathlib.Omega.{arith}
@@ -31,6 +31,15 @@ mul-list-3 c = search needs
 slice-write-list-3 : tie.Need-slice-write-list-3
 slice-write-list-3 c = rw length-set (rw length-set (omega arith))
 
+add-list-3 : tie.Need-add-list-3
+add-list-3 c = search needs
+
+mul-list-4 : tie.Need-mul-list-4
+mul-list-4 c = search needs
+
+slice-write-list-4 : tie.Need-slice-write-list-4
+slice-write-list-4 c = rw length-set (rw length-set (rw length-set (omega arith)))
+
 same-length : tie.Need-same-length
 same-length c = search needs
 
@@ -49,5 +58,8 @@ put-hit-spec =
     add-list-2
     mul-list-3
     slice-write-list-3
+    add-list-3
+    mul-list-4
+    slice-write-list-4
     same-length
     returns)

@@ -26,6 +26,7 @@ returns : tie.Need-returns
 returns c =
     let s = c .before .before .before in
     write-off (grid (now (s .args .words)) (now (s .args .times))) (s .args .oid) (s .args .x) (s .args .y)
+    (s .args .tag)
     (sym (c .before .on-grid .ensures) ∙ not-true (c .before .on-grid .result) (c .if1 .taken))
 
 slice-read-last : tie.Need-slice-read-last
@@ -36,6 +37,7 @@ returns-2 c =
     let at-on-grid = c .before .before .before in
     let s = at-on-grid .before .before in
     write-late (grid (now (s .args .words)) (now (s .args .times))) (s .args .oid) (s .args .x) (s .args .y)
+    (s .args .tag)
     (sym (at-on-grid .on-grid .ensures) ∙ not-false (at-on-grid .on-grid .result)
     (c .before .before .if1 .left)) (at (now (s .args .words)) CLOCK)
     (clock-at (now (s .args .words)) (now (s .args .times))) (c .if2 .taken)
@@ -73,9 +75,11 @@ returns-3 c =
     (w .tuples)) (grid (now (s .args .words)) (now (s .args .times)))
     (grid (at-write-tuple .write-tuple .last .0) (at-write-tuple .write-tuple .last .1 .0))
     (writeOn (grid (now (s .args .words)) (now (s .args .times))) _ (s .args .oid) (s .args .x) (s .args .y)
+    (s .args .tag)
     ((at (now (s .args .words)) CLOCK) + 1)) (at-write-tuple .write-tuple .ensures) (c .enum-told .given .1)
     in
     write-lost (grid (now (s .args .words)) (now (s .args .times))) (s .args .oid) (s .args .x) (s .args .y)
+    (s .args .tag)
     (sym (at-on-grid .on-grid .ensures) ∙ not-false (at-on-grid .on-grid .result) (at-if1 .if1 .left))
     (at (now (s .args .words)) CLOCK) (clock-at (now (s .args .words)) (now (s .args .times)))
     (at-if2 .if2 .left) (grid (at-write-tuple .write-tuple .last .0)
@@ -102,9 +106,11 @@ returns-4 c =
     (grid (now (s .args .words)) (now (s .args .times)))
     (grid (at-write-tuple .write-tuple .last .0) (at-write-tuple .write-tuple .last .1 .0))
     (writeOn (grid (now (s .args .words)) (now (s .args .times))) _ (s .args .oid) (s .args .x) (s .args .y)
+    (s .args .tag)
     ((at (now (s .args .words)) CLOCK) + 1)) (at-write-tuple .write-tuple .ensures) _
     (c .before .written .given .1) in
     write-done (grid (now (s .args .words)) (now (s .args .times))) (s .args .oid) (s .args .x) (s .args .y)
+    (s .args .tag)
     (sym (at-on-grid .on-grid .ensures) ∙ not-false (at-on-grid .on-grid .result) (at-if1 .if1 .left))
     (at (now (s .args .words)) CLOCK) (clock-at (now (s .args .words)) (now (s .args .times)))
     (at-if2 .if2 .left) _ _ (at-cell-of .cell-of .ensures) _ (e .0) (e .1) (e .2)

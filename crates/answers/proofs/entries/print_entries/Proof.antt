@@ -1,4 +1,4 @@
--- print_entries prints `entryLines`. The loop's invariant: the lines of the entries so far are printed, at most 33 bytes for each. The measure is how many are left.
+-- print_entries prints `entryLines`. The loop's invariant: the lines of the entries so far are printed, at most 44 bytes for each. The measure is how many are left.
 use mathlib.Core.Path.{_≡_, ap}
 use Prim.Native.Nat.{_+_, _*_, _-_, _≤_}
 use native.Mathlib.Omega.{arith}
@@ -12,7 +12,7 @@ use Rattle.answers.proofs.entries.print_entries.Statement.{statement}
 use Rattle.answers.proofs.entries.print_entries.Tie as tie
 
 abbrev Inv-loop : tie.InvT-loop
-Inv-loop out₀ at list entries place₀ i₀ out place i = (i ≤ entries) × (place ≤ at + 33 * i) × Printed out₀ at (entryLines list i) out place
+Inv-loop out₀ at list entries place₀ i₀ out place i = (i ≤ entries) × (place ≤ at + 44 * i) × Printed out₀ at (entryLines list i) out place
 
 abbrev μ-loop : tie.MeasureT-loop
 μ-loop out₀ at list entries place₀ i₀ out place i = entries - i
@@ -59,9 +59,21 @@ mul-print-entry-6 c = search needs
 shared-slice-read-print-entry-3 : tie.Need-shared-slice-read-print-entry-3 Inv-loop μ-loop
 shared-slice-read-print-entry-3 c = search needs
 
+mul-print-entry-7 : tie.Need-mul-print-entry-7 Inv-loop μ-loop
+mul-print-entry-7 c = search needs
+
+add-print-entry-3 : tie.Need-add-print-entry-3 Inv-loop μ-loop
+add-print-entry-3 c = search needs
+
+mul-print-entry-8 : tie.Need-mul-print-entry-8 Inv-loop μ-loop
+mul-print-entry-8 c = search needs
+
+shared-slice-read-print-entry-4 : tie.Need-shared-slice-read-print-entry-4 Inv-loop μ-loop
+shared-slice-read-print-entry-4 c = search needs
+
 print-entry-requires : tie.Need-print-entry-requires Inv-loop μ-loop
 print-entry-requires c κs =
-    let at-loop = c .before .before .before .before .before in
+    let at-loop = c .before .before .before .before .before .before in
     omega (arith, printed-length (at-loop .loop .inv .2))
 
 add-i : tie.Need-add-i Inv-loop μ-loop
@@ -72,20 +84,21 @@ loop-less c = search needs
 
 loop-again : tie.Need-loop-again Inv-loop μ-loop
 loop-again c =
-    let at-shared-slice-known4 = c .before .before .before in
-    let at-loop = at-shared-slice-known4 .before .before .before .before .before in
+    let at-shared-slice-known5 = c .before .before .before in
+    let at-loop = at-shared-slice-known5 .before .before .before .before .before .before in
     let s = at-loop .before .before .before in
     let l = now (s .args .list) in
     let i = at-loop .loop .i in
     let p = c .before .before .print-entry .ensures in
-    let known = at-shared-slice-known4 .shared-slice-known4 .given in (
+    let known = at-shared-slice-known5 .shared-slice-known5 .given in (
       search needs,
       omega (
         arith,
         p .behind,
-        entry-short (number-at l (3 * i)) (number-at l (3 * i + 1))
-            (number-at l (3 * i + 2)) (search (needs, known (3 * i))) (search (needs, known (3 * i + 1)))
-            (search (needs, known (3 * i + 2))),
+        entry-short (number-at l (4 * i)) (number-at l (4 * i + 1))
+            (number-at l (4 * i + 2)) (number-at l (4 * i + 3)) (search (needs, known (4 * i)))
+            (search (needs, known (4 * i + 1))) (search (needs, known (4 * i + 2)))
+            (search (needs, known (4 * i + 3))),
       ),
       printed-as (entries-more l i)
           (printed-both (at-loop .loop .inv .2) p),
@@ -118,6 +131,10 @@ print-entries-spec =
     add-print-entry-2
     mul-print-entry-6
     shared-slice-read-print-entry-3
+    mul-print-entry-7
+    add-print-entry-3
+    mul-print-entry-8
+    shared-slice-read-print-entry-4
     print-entry-requires
     add-i
     loop-less

@@ -33,11 +33,32 @@ print-closed-requires-3 c κs =
       s .pre,
       closed-32 (s .args .oid) 44 (search needs),
       closed-32 (s .args .x) 44 (search needs),
-      closed-32 (s .args .y) 10 (search needs),
+      closed-32 (s .args .y) 44 (search needs),
       at-print-closed .print-closed .ensures .behind,
       at-print-closed .print-closed .kept .0,
       at-print-closed2 .print-closed2 .ensures .behind,
       at-print-closed2 .print-closed2 .kept .0,
+    )
+
+print-closed-requires-4 : tie.Need-print-closed-requires-4
+print-closed-requires-4 c κs =
+    let at-print-closed3 = c .before .before .before in
+    let at-print-closed2 = at-print-closed3 .before .before .before .before in
+    let at-print-closed = at-print-closed2 .before .before .before .before in
+    let s = at-print-closed .before .before .before in
+    omega (
+      arith,
+      s .pre,
+      closed-32 (s .args .oid) 44 (search needs),
+      closed-32 (s .args .x) 44 (search needs),
+      closed-32 (s .args .y) 44 (search needs),
+      closed-32 (s .args .tag) 10 (search needs),
+      at-print-closed .print-closed .ensures .behind,
+      at-print-closed .print-closed .kept .0,
+      at-print-closed2 .print-closed2 .ensures .behind,
+      at-print-closed2 .print-closed2 .kept .0,
+      at-print-closed3 .print-closed3 .ensures .behind,
+      at-print-closed3 .print-closed3 .kept .0,
     )
 
 same-length : tie.Need-same-length
@@ -45,12 +66,14 @@ same-length c = search needs
 
 returns : tie.Need-returns
 returns c =
-    let at-print-closed2 = c .before .before .before .before .before .before in
+    let at-print-closed3 = c .before .before .before .before .before .before in
+    let at-print-closed2 = at-print-closed3 .before .before .before .before in
     let at-print-closed = at-print-closed2 .before .before .before .before in
     let s = at-print-closed .before .before .before in
-    printed-as (entry-parts (s .args .oid) (s .args .x) (s .args .y))
+    printed-as (entry-parts (s .args .oid) (s .args .x) (s .args .y) (s .args .tag))
     (printed-both (at-print-closed .print-closed .ensures)
-    (printed-both (at-print-closed2 .print-closed2 .ensures) (c .before .before .print-closed3 .ensures)))
+    (printed-both (at-print-closed2 .print-closed2 .ensures)
+    (printed-both (at-print-closed3 .print-closed3 .ensures) (c .before .before .print-closed4 .ensures))))
 
 pub print-entry-spec : {M : Type 1} → statement M
 print-entry-spec =
@@ -59,5 +82,6 @@ print-entry-spec =
     print-closed-requires
     print-closed-requires-2
     print-closed-requires-3
+    print-closed-requires-4
     same-length
     returns)

@@ -1,4 +1,4 @@
--- load_updater decodes the nine numbers of a lane.
+-- load_updater decodes the ten numbers of a lane.
 use denote.Ref.{now}
 use Rattle.codes.proofs.Updaters.{load-lane}
 use borrow.Author.Needs.{needs}
@@ -87,8 +87,17 @@ mul-t15 c = search needs
 element-copy-out-t19 : tie.Need-element-copy-out-t19
 element-copy-out-t19 c = search needs
 
+add-t6 : tie.Need-add-t6
+add-t6 c = search needs
+
+mul-t32 : tie.Need-mul-t32
+mul-t32 c = search needs
+
+element-copy-out-t35 : tie.Need-element-copy-out-t35
+element-copy-out-t35 c = search needs
+
 returns : tie.Need-returns
-returns c = load-lane (now (c .before .before .before .before .before .before .before .before .before .before .args .lanes)) (c .before .before .before .before .before .before .before .before .before .before .args .at) _ (c .before .before .before .stage-of .ensures)
+returns c = load-lane (now (c .before .before .before .before .before .before .before .before .before .before .before .args .lanes)) (c .before .before .before .before .before .before .before .before .before .before .before .args .at) _ (c .before .before .before .before .stage-of .ensures)
 
 pub load-updater-spec : {M : Type 1} → statement M
 load-updater-spec =
@@ -121,4 +130,7 @@ load-updater-spec =
     add-t16
     mul-t15
     element-copy-out-t19
+    add-t6
+    mul-t32
+    element-copy-out-t35
     returns)

@@ -1,4 +1,4 @@
--- store_started stores the nine numbers of an update that begins.
+-- store_started stores the ten numbers of an update that begins.
 use denote.Ref.{now}
 use Rattle.codes.proofs.Updaters.{store-first}
 use borrow.Author.Needs.{needs}
@@ -83,8 +83,17 @@ mul-lanes-9 c = search needs
 element-write-lanes-9 : tie.Need-element-write-lanes-9
 element-write-lanes-9 c = search needs
 
+add-lanes-9 : tie.Need-add-lanes-9
+add-lanes-9 c = search needs
+
+mul-lanes-10 : tie.Need-mul-lanes-10
+mul-lanes-10 c = search needs
+
+element-write-lanes-10 : tie.Need-element-write-lanes-10
+element-write-lanes-10 c = search needs
+
 returns : tie.Need-returns
-returns c = store-first (now (c .args .lanes)) (c .args .at) _ _ _
+returns c = store-first (now (c .args .lanes)) (c .args .at) _ _ _ _
 
 pub store-started-spec : {M : Type 1} → statement M
 store-started-spec =
@@ -116,4 +125,7 @@ store-started-spec =
     add-lanes-8
     mul-lanes-9
     element-write-lanes-9
+    add-lanes-9
+    mul-lanes-10
+    element-write-lanes-10
     returns)

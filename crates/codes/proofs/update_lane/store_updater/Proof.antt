@@ -1,4 +1,4 @@
--- store_updater stores the nine numbers of a lane.
+-- store_updater stores the ten numbers of a lane.
 use native.Mathlib.Omega.{arith}
 use denote.Ref.{now}
 use Rattle.codes.proofs.Updaters.{store-lane}
@@ -88,6 +88,15 @@ mul-lanes-9 c = search needs
 element-write-lanes-9 : tie.Need-element-write-lanes-9
 element-write-lanes-9 c = search needs
 
+add-lanes-9 : tie.Need-add-lanes-9
+add-lanes-9 c = search needs
+
+mul-lanes-10 : tie.Need-mul-lanes-10
+mul-lanes-10 c = search needs
+
+element-write-lanes-10 : tie.Need-element-write-lanes-10
+element-write-lanes-10 c = search needs
+
 returns : tie.Need-returns
 returns c = store-lane (now (c .before .before .args .lanes)) (c .before .before .args .at) _ _ (c .before .code-stage .ensures)
 
@@ -122,4 +131,7 @@ store-updater-spec =
     add-lanes-8
     mul-lanes-9
     element-write-lanes-9
+    add-lanes-9
+    mul-lanes-10
+    element-write-lanes-10
     returns)

@@ -13,7 +13,7 @@ use Rattle.codes.proofs.update_lane.store_started.Reads as store-started-reads
 returns : tie.Need-returns
 returns c =
     let s = c .before in
-    start-none (grid (now (s .args .words)) (now (s .args .times))) (now (s .args .updaters)) (s .args .lane) _ _ _ (c .if1 .taken)
+    start-none (grid (now (s .args .words)) (now (s .args .times))) (now (s .args .updaters)) (s .args .lane) _ _ _ _ (c .if1 .taken)
 
 mul-at : tie.Need-mul-at
 mul-at c = search needs
@@ -30,7 +30,7 @@ element-copy-out-stage c = search needs
 returns-2 : tie.Need-returns-2
 returns-2 c =
     let s = c .before .before .before in
-    start-nameless (grid (now (s .args .words)) (now (s .args .times))) (now (s .args .updaters)) (s .args .lane) _ _ _ (c .before .before .if1 .left) (c .if2 .taken)
+    start-nameless (grid (now (s .args .words)) (now (s .args .times))) (now (s .args .updaters)) (s .args .lane) _ _ _ _ (c .before .before .if1 .left) (c .if2 .taken)
 
 seen-updater-requires : tie.Need-seen-updater-requires
 seen-updater-requires c κs = search needs
@@ -41,7 +41,7 @@ start-one-requires c κs = search needs
 returns-3 : tie.Need-returns-3
 returns-3 c =
     let s = c .before .before .before .before .before .before .before .before .before in
-    start-refused (grid (now (s .args .words)) (now (s .args .times))) (now (s .args .updaters)) (s .args .lane) _ _ _ (c .before .before .before .before .before .before .before .before .if1 .left) (c .before .before .before .before .before .before .if2 .left) (c .before .before .before .before .before .seen-updater .result) (c .before .before .before .before .before .seen-updater .ensures) _ _ _
+    start-refused (grid (now (s .args .words)) (now (s .args .times))) (now (s .args .updaters)) (s .args .lane) _ _ _ _ (c .before .before .before .before .before .before .before .before .if1 .left) (c .before .before .before .before .before .before .if2 .left) (c .before .before .before .before .before .seen-updater .result) (c .before .before .before .before .before .seen-updater .ensures) _ _ _
     (c .before .before .start-one .ensures) (c .if3 .taken)
 
 store-started-requires : tie.Need-store-started-requires
@@ -50,7 +50,7 @@ store-started-requires c κs = search needs
 returns-4 : tie.Need-returns-4
 returns-4 c =
     let s = c .before .before .before .before .before .before .before .before .before .before .before in
-    start-accepted (grid (now (s .args .words)) (now (s .args .times))) (now (s .args .updaters)) (s .args .lane) _ _ _ (c .before .before .before .before .before .before .before .before .before .before .if1 .left) (c .before .before .before .before .before .before .before .before .if2 .left) (c .before .before .before .before .before .before .before .seen-updater .result) (c .before .before .before .before .before .before .before .seen-updater .ensures) _ _ _
+    start-accepted (grid (now (s .args .words)) (now (s .args .times))) (now (s .args .updaters)) (s .args .lane) _ _ _ _ (c .before .before .before .before .before .before .before .before .before .before .if1 .left) (c .before .before .before .before .before .before .before .before .if2 .left) (c .before .before .before .before .before .before .before .seen-updater .result) (c .before .before .before .before .before .before .before .seen-updater .ensures) _ _ _
     (c .before .before .before .before .start-one .ensures) (c .before .before .if3 .left) _ (c .store-started .ensures)
 
 pub gurtheddu-update-start-spec : {M : Type 1} → statement M

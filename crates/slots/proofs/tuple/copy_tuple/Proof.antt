@@ -77,6 +77,15 @@ mul-y c = search needs
 slice-read-y : tie.Need-slice-read-y
 slice-read-y c = search needs
 
+add-tag : tie.Need-add-tag
+add-tag c = search needs
+
+mul-tag : tie.Need-mul-tag
+mul-tag c = search needs
+
+slice-read-tag : tie.Need-slice-read-tag
+slice-read-tag c = search needs
+
 put-tuple-requires : tie.Need-put-tuple-requires
 put-tuple-requires c κs = search needs
 
@@ -86,8 +95,8 @@ mul-times c = search needs
 slice-copy-out-times : tie.Need-slice-copy-out-times
 slice-copy-out-times c = search needs
 
-mul-t17 : tie.Need-mul-t17
-mul-t17 c = search needs
+mul-t18 : tie.Need-mul-t18
+mul-t18 c = search needs
 
 slice-set-from-times : tie.Need-slice-set-from-times
 slice-set-from-times c = search needs
@@ -101,7 +110,7 @@ same-length-2 c = search needs
 returns-5 : tie.Need-returns-5
 returns-5 c =
     let at-put-tuple = c .before .before .before in
-    let at-if4 = at-put-tuple .before .before .before .before .before in
+    let at-if4 = at-put-tuple .before .before .before .before .before .before in
     let at-if3 = at-if4 .before in
     let at-if2 = at-if3 .before in
     let at-if1 = at-if2 .before in
@@ -132,10 +141,13 @@ copy-tuple-spec =
     add-y
     mul-y
     slice-read-y
+    add-tag
+    mul-tag
+    slice-read-tag
     put-tuple-requires
     mul-times
     slice-copy-out-times
-    mul-t17
+    mul-t18
     slice-set-from-times
     same-length
     same-length-2

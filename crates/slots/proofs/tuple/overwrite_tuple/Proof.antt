@@ -74,7 +74,7 @@ returns-4 c =
     let at-if1 = at-if2 .before in
     let s = at-if1 .before .before in
     overwritten (now (s .args .tuples)) (c .before .before .put-tuple .last .0) (now (s .args .times)) _ _ _
-    (at-if1 .if1 .left) (at-if2 .if2 .left) _ _ _ _ (sym (at-in-range .in-range .ensures) ∙ not-false
+    (at-if1 .if1 .left) (at-if2 .if2 .left) _ _ _ _ _ (sym (at-in-range .in-range .ensures) ∙ not-false
     (at-in-range .in-range .result) (at-if3 .if3 .left))
     (toZ-ofZ w32 _ (record { sfits = at-current-stamp .current-stamp .ok }) ∙
     at-current-stamp .current-stamp .ensures) (c .before .before .put-tuple .ensures)

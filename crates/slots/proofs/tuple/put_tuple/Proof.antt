@@ -1,4 +1,4 @@
--- put_tuple writes over the three columns of the list: the law of Putting.antt.
+-- put_tuple writes over the four columns of the list: the law of Putting.antt.
 use denote.Ref.{now}
 use lib.ListN.{length-set}
 use native.Mathlib.Omega.{arith}
@@ -31,12 +31,22 @@ mul-tuples-3 c = search needs
 slice-write-tuples-3 : tie.Need-slice-write-tuples-3
 slice-write-tuples-3 c = rw length-set (rw length-set (omega arith))
 
+add-tuples-3 : tie.Need-add-tuples-3
+add-tuples-3 c = search needs
+
+mul-tuples-4 : tie.Need-mul-tuples-4
+mul-tuples-4 c = search needs
+
+slice-write-tuples-4 : tie.Need-slice-write-tuples-4
+slice-write-tuples-4 c = rw length-set (rw length-set (rw length-set (omega arith)))
+
 same-length : tie.Need-same-length
 same-length c = search needs
 
 returns : tie.Need-returns
 returns c ts =
-    put-all (now (c .args .tuples)) (c .pre .0) (c .args .at) (c .pre .1) (c .args .oid) (c .args .x) (c .args .y) ts
+    put-all (now (c .args .tuples)) (c .pre .0) (c .args .at) (c .pre .1) (c .args .oid) (c .args .x) (c .args .y)
+    (c .args .tag) ts
 
 pub put-tuple-spec : {M : Type 1} → statement M
 put-tuple-spec =
@@ -50,5 +60,8 @@ put-tuple-spec =
     add-tuples-2
     mul-tuples-3
     slice-write-tuples-3
+    add-tuples-3
+    mul-tuples-4
+    slice-write-tuples-4
     same-length
     returns)

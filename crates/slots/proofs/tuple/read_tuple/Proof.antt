@@ -4,7 +4,7 @@ use Prim.Native.Nat.{_+_, _*_}
 use native.Mathlib.Nat.{zero-add}
 use denote.Ref.{now}
 use Rattle.base.specs.Outcome.{need, tells}
-use Rattle.words.specs.Map.{TUPLE-XS, TUPLE-YS}
+use Rattle.words.specs.Map.{TUPLE-XS, TUPLE-YS, TUPLE-TAGS}
 use Rattle.words.proofs.Parts.{part-at}
 use Rattle.slots.specs.Tuple.{read, needSlot, seen}
 use Rattle.slots.proofs.Putting.{lt-slot}
@@ -72,8 +72,8 @@ mul-t25 c = search needs
 shared-slice-read-t27 : tie.Need-shared-slice-read-t27
 shared-slice-read-t27 c = search needs
 
-enum-known-stamp-2 : tie.Need-enum-known-stamp-2
-enum-known-stamp-2 c = search needs
+add-t28 : tie.Need-add-t28
+add-t28 c = search needs
 
 mul-t29 : tie.Need-mul-t29
 mul-t29 c = search needs
@@ -81,8 +81,8 @@ mul-t29 c = search needs
 shared-slice-read-t31 : tie.Need-shared-slice-read-t31
 shared-slice-read-t31 c = search needs
 
-add-t32 : tie.Need-add-t32
-add-t32 c = search needs
+enum-known-stamp-2 : tie.Need-enum-known-stamp-2
+enum-known-stamp-2 c = search needs
 
 mul-t33 : tie.Need-mul-t33
 mul-t33 c = search needs
@@ -98,6 +98,24 @@ mul-t37 c = search needs
 
 shared-slice-read-t39 : tie.Need-shared-slice-read-t39
 shared-slice-read-t39 c = search needs
+
+add-t40 : tie.Need-add-t40
+add-t40 c = search needs
+
+mul-t41 : tie.Need-mul-t41
+mul-t41 c = search needs
+
+shared-slice-read-t43 : tie.Need-shared-slice-read-t43
+shared-slice-read-t43 c = search needs
+
+add-t44 : tie.Need-add-t44
+add-t44 c = search needs
+
+mul-t45 : tie.Need-mul-t45
+mul-t45 c = search needs
+
+shared-slice-read-t47 : tie.Need-shared-slice-read-t47
+shared-slice-read-t47 c = search needs
 
 returns-3 : tie.Need-returns-3
 unfolding read needSlot seen need tells
@@ -116,7 +134,7 @@ returns-3 c =
 returns-4 : tie.Need-returns-4
 unfolding read needSlot seen need tells
 returns-4 c =
-    let at-stamp = c .before .before .before .before in
+    let at-stamp = c .before .before .before .before .before in
     let at-read-stamp = at-stamp .before .before in
     let at-s = at-read-stamp .before in
     let at-if2 = at-s .before in
@@ -136,12 +154,14 @@ returns-4 c =
           (lt-slot (at-if1 .if1 .left) (at-if2 .if2 .left)),
       part-at (now (s .args .tuples)) TUPLE-YS 2048
           (4 * s .args .bucket + s .args .slot) 0 (lt-slot (at-if1 .if1 .left) (at-if2 .if2 .left)),
+      part-at (now (s .args .tuples)) TUPLE-TAGS 2048
+          (4 * s .args .bucket + s .args .slot) 0 (lt-slot (at-if1 .if1 .left) (at-if2 .if2 .left)),
     )
 
 returns-5 : tie.Need-returns-5
 unfolding read needSlot seen need tells
 returns-5 c =
-    let at-stamp2 = c .before .before .before .before in
+    let at-stamp2 = c .before .before .before .before .before in
     let at-read-stamp = at-stamp2 .before .before in
     let at-s = at-read-stamp .before in
     let at-if2 = at-s .before in
@@ -159,6 +179,8 @@ returns-5 c =
       part-at (now (s .args .tuples)) TUPLE-XS 2048 (4 * s .args .bucket + s .args .slot) 0
           (lt-slot (at-if1 .if1 .left) (at-if2 .if2 .left)),
       part-at (now (s .args .tuples)) TUPLE-YS 2048
+          (4 * s .args .bucket + s .args .slot) 0 (lt-slot (at-if1 .if1 .left) (at-if2 .if2 .left)),
+      part-at (now (s .args .tuples)) TUPLE-TAGS 2048
           (4 * s .args .bucket + s .args .slot) 0 (lt-slot (at-if1 .if1 .left) (at-if2 .if2 .left)),
     )
 
@@ -184,15 +206,21 @@ read-tuple-spec =
     add-t24
     mul-t25
     shared-slice-read-t27
-    enum-known-stamp-2
+    add-t28
     mul-t29
     shared-slice-read-t31
-    add-t32
+    enum-known-stamp-2
     mul-t33
     shared-slice-read-t35
     add-t36
     mul-t37
     shared-slice-read-t39
+    add-t40
+    mul-t41
+    shared-slice-read-t43
+    add-t44
+    mul-t45
+    shared-slice-read-t47
     returns-3
     returns-4
     returns-5)

@@ -5,17 +5,18 @@ use Prim.Native.Nat.{_-_}
 use native.Mathlib.Omega.{arith}
 use lib.ListN.{length}
 use lib.Seq.{length-take-le}
+use Rattle.words.specs.Map.{WORDS}
 use borrow.Author.Needs.{needs}
 use Rattle.test_looked.proofs.run.run_calls.Statement.{statement}
 use Rattle.test_looked.proofs.run.run_calls.Tie as tie
 
 abbrev Inv-loop : tie.InvT-loop
 Inv-loop text words₀ times₀ list₀ line₀ out₀ d₀ next₀ number₀ words times list line out d next number =
-    (13826 ≡ length words)
+    (WORDS ≡ length words)
     × (2048 ≡ length times)
-    × (768 ≡ length list)
+    × (1024 ≡ length list)
     × (61 ≡ length line)
-    × (8512 ≡ length out)
+    × (11328 ≡ length out)
 
 abbrev μ-loop : tie.MeasureT-loop
 μ-loop text words₀ times₀ list₀ line₀ out₀ d₀ next₀ number₀ words times list line out d next number = 4096 - number

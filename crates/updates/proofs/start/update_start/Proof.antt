@@ -22,7 +22,7 @@ returns c =
     let w = now (s .args .words) in
     let ts = now (s .args .times) in
     start-none (grid w ts) (s .args .t1) (s .args .lane) (c .before .if1 .taken) _
-    (c .no-lane .ensures ∙ ap (λ (b : Bool). pick b 1 12) (grid-lengths w ts)) _ _ _
+    (c .no-lane .ensures ∙ ap (λ (b : Bool). pick b 1 12) (grid-lengths w ts)) _ _ _ _
 
 mul-u : tie.Need-mul-u
 mul-u c = search needs
@@ -45,7 +45,7 @@ same-length c = search needs
 returns-2 : tie.Need-returns-2
 returns-2 c =
     let s = c .before .before .before .before .before .before .before .before in
-    start-in (grid (now (s .args .words)) (now (s .args .times))) (s .args .t1) (s .args .lane) _ _ _
+    start-in (grid (now (s .args .words)) (now (s .args .times))) (s .args .t1) (s .args .lane) _ _ _ _
     ∙ ap (placed (s .args .t1) (s .args .lane)) (c .before .before .before .start-one .ensures)
 
 pub update-start-spec : {M : Type 1} → statement M
