@@ -62,7 +62,7 @@ struct LibraryRun { // a run of steps under one call
     void query(const Square &s, List &l)
     {
         uint32_t made;
-        must(gd_query_start(&deck, 0, s.x0, s.y0, s.x1, s.y1) == 0);
+        must(gd_query_start(&deck, 0, GURTHEDDU_CENTRE, s.x0, s.y0, s.x1, s.y1, 0) == 0);
         must(gd_query_run(&deck, 0, 1000000, &made) == GURTHEDDU_FINISHED);
         must(gd_collect(&deck, 0, l.out, GURTHEDDU_LIST, &l.steps, &l.filled) == 0);
     }
@@ -82,7 +82,7 @@ struct LibraryStep { // a step under each call
     void query(const Square &s, List &l)
     {
         uint32_t number;
-        must(gd_query_start(&deck, 0, s.x0, s.y0, s.x1, s.y1) == 0);
+        must(gd_query_start(&deck, 0, GURTHEDDU_CENTRE, s.x0, s.y0, s.x1, s.y1, 0) == 0);
         do number = gd_query_step(&deck, 0);
         while (number == 0);
         must(number == GURTHEDDU_FINISHED);

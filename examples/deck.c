@@ -54,7 +54,7 @@ int main(void)
     report(0, 30, 5000, 5000, 0);
 
     /* The sweep has read the first cell when carrier 19 begins to move there from a cell that it has not read. */
-    expect(gd_query_start(&deck, 0, 0, 0, 3071, 1023), GURTHEDDU_ACCEPTED, "sweep");
+    expect(gd_query_start(&deck, 0, GURTHEDDU_CENTRE, 0, 0, 3071, 1023, 0), GURTHEDDU_ACCEPTED, "sweep");
     for (i = 0; i < 3; i++) expect(gd_query_step(&deck, 0), GURTHEDDU_MOVED_ON, "sweep step");
     expect(gd_update_start(&deck, 0, 19, 200, 100, 3), GURTHEDDU_ACCEPTED, "report");
     take_turns();

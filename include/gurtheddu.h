@@ -1,12 +1,12 @@
 /* Gurtheddu: the verified index of a carrier deck, for programs in C99 or C++.
  *
- * It answers which carriers stand in a rectangle while they go on moving. Reports of new positions (updates) and
- * sweeps over a rectangle (queries) take turns, one small step each. README.md has the rules in short, docs/SCOPE.md in
- * full; docs/THEOREMS.md says what is proved.
+ * It answers which carriers stand in a rectangle, touch it or lie within it while they go on moving. Reports of new
+ * positions (updates) and sweeps over a rectangle (queries) take turns, one small step each. README.md has the rules in
+ * short, docs/SCOPE.md in full; docs/THEOREMS.md says what is proved.
  *
  * Build the archive with `tools/library`, and link it: cc -Iinclude program.c target/staticlib/libgurtheddu.a
  *
- * A deck is one `struct gurtheddu`, which the caller keeps wherever it likes: 76,280 bytes without a pointer. It can be
+ * A deck is one `struct gurtheddu`, which the caller keeps wherever it likes: 76,312 bytes without a pointer. It can be
  * copied by assignment, saved and loaded as its bytes, and compared with memcmp. The library keeps nothing of its own
  * and allocates nothing, so a program can have several decks.
  *
@@ -14,7 +14,7 @@
  * a deck between calls. If something is changed all the same, no call does anything undefined: where a call has to use a
  * number that cannot be right it answers 12 and changes nothing.
  *
- * A call that is refused (1 to 12, 30, 31) or held (20) changes nothing in the deck.
+ * A call that is refused (1 to 12, 30, 31, 32) or held (20) changes nothing in the deck.
  *
  * COST. Every call ends, and no loop of one is long: what is said 'at most' below counts the turns of its loops. How
  * many instructions and nanoseconds whole updates and queries take stands in README.md.
@@ -50,7 +50,8 @@ enum gurtheddu_number {
     GURTHEDDU_WENT_BACK = 21,       /* an update begins again at its first stage: step on */
     GURTHEDDU_FINISHED = 22,        /* that was the last step */
     GURTHEDDU_DECK_IN_MOTION = 30,  /* a rewind while an update is under way or a query lane is not idle */
-    GURTHEDDU_MARK_OVER = 31        /* a mark over 9 */
+    GURTHEDDU_MARK_OVER = 31,       /* a mark over 9 */
+    GURTHEDDU_RADIUS_OVER = 32      /* a radius over 511 */
 };
 
 /* ---- sizes ---- */
@@ -107,14 +108,24 @@ enum {
 };
 
 enum {
+    GURTHEDDU_Q_KIND,               /* the kind of question: 0 touching, 1 within, 2 centre */
     GURTHEDDU_Q_X0, GURTHEDDU_Q_Y0, GURTHEDDU_Q_X1, GURTHEDDU_Q_Y1,
+    GURTHEDDU_Q_RADIUS,             /* of touching and within */
     GURTHEDDU_Q_STAMP,              /* drawn at the start */
     GURTHEDDU_Q_HITS,               /* entries of the list so far */
     GURTHEDDU_Q_STEPS,              /* steps made so far */
     GURTHEDDU_Q_STAGE,              /* 0 idle, 1 to enter a cell, 2 in a bucket, 3 finished */
     GURTHEDDU_Q_CELL, GURTHEDDU_Q_BUCKET,
     GURTHEDDU_Q_LEFT,               /* slots of the bucket that are still to be read */
-    GURTHEDDU_QUERY                 /* how many numbers a lane has: 11 */
+    GURTHEDDU_QUERY                 /* how many numbers a lane has: 13 */
+};
+
+/* ---- what a query asks about its rectangle ---- */
+
+enum gurtheddu_kind {
+    GURTHEDDU_TOUCHING = 0,         /* the centre lies at most the radius from the rectangle (T) */
+    GURTHEDDU_WITHIN = 1,           /* the centre lies at least the radius inside each side (W) */
+    GURTHEDDU_CENTRE = 2            /* the centre lies in the rectangle; its radius is not looked at (Q) */
 };
 
 /* ---- a deck ---- */
@@ -138,8 +149,8 @@ uint32_t gurtheddu_update_start(uint32_t *updaters, uint32_t lane, uint32_t oid,
                                 uint32_t *words, const int32_t *times);
 uint32_t gurtheddu_update_run(uint32_t *updaters, uint32_t lane, uint32_t budget, uint32_t *made,
                               uint32_t *words, int32_t *times);
-uint32_t gurtheddu_query_start(uint32_t *queries, uint32_t lane, uint32_t x0, uint32_t y0, uint32_t x1, uint32_t y1,
-                               uint32_t *words, const int32_t *times);
+uint32_t gurtheddu_query_start(uint32_t *queries, uint32_t lane, uint32_t kind, uint32_t x0, uint32_t y0, uint32_t x1,
+                               uint32_t y1, uint32_t radius, uint32_t *words, const int32_t *times);
 uint32_t gurtheddu_query_run(uint32_t *queries, uint32_t lane, uint32_t budget, uint32_t *made,
                              uint32_t *words, const int32_t *times);
 uint32_t gurtheddu_read(const uint32_t *queries, uint32_t lane, uint32_t *out, size_t out_len, uint32_t *steps,
@@ -154,7 +165,7 @@ uint32_t gurtheddu_rewind(const uint32_t *updaters, const uint32_t *queries, uin
 /* ---- the calls on a deck ---- */
 
 /* Makes a fresh deck of whatever was there: every deck begins so. Gives 0.
- * Writes all 19,070 numbers. */
+ * Writes all 19,078 numbers. */
 static inline uint32_t gd_reset(struct gurtheddu *deck)
 {
     return gurtheddu_reset(deck->updaters, deck->queries, deck->words, deck->times);
@@ -185,18 +196,20 @@ static inline uint32_t gd_update_step(struct gurtheddu *deck, uint32_t lane)
     return gd_update_run(deck, lane, 1, &made);
 }
 
-/* Starts a query in a lane, 0 to 3: which carriers stand in the rectangle from (x0, y0) to (x1, y1), edges included?
- * Gives 0, or 1, 2, 5, 6, 8, 12.
+/* Starts a query in a lane, 0 to 3: which carriers satisfy a question about the rectangle from (x0, y0) to (x1, y1),
+ * edges included? `kind` is one of enum gurtheddu_kind, and any other is 12; the radius is 0 to 511.
+ * Gives 0, or 1, 2, 5, 6, 32, 8, 12.
  * No loop. */
-static inline uint32_t gd_query_start(struct gurtheddu *deck, uint32_t lane, uint32_t x0, uint32_t y0, uint32_t x1,
-                                      uint32_t y1)
+static inline uint32_t gd_query_start(struct gurtheddu *deck, uint32_t lane, uint32_t kind, uint32_t x0, uint32_t y0,
+                                      uint32_t x1, uint32_t y1, uint32_t radius)
 {
-    return gurtheddu_query_start(deck->queries, lane, x0, y0, x1, y1, deck->words, deck->times);
+    return gurtheddu_query_start(deck->queries, lane, kind, x0, y0, x1, y1, radius, deck->words, deck->times);
 }
 
 /* Makes up to `budget` steps of the query in a lane, ended by the first number that is not 0, and gives the last number:
  * 0, 20, 22, or 1, 3, 9, 12. `made` is the number of steps that were made; a step that was refused or held is none.
- * A query has a step for each cell that the rectangle touches, and one for each tuple and each bucket found there.
+ * A query has a step for each cell that the rectangle touches, for touching the rectangle grown by the radius, and one
+ * for each tuple and each bucket found there.
  * Each step at most two passes over the list so far, of 256 turns each. */
 static inline uint32_t gd_query_run(struct gurtheddu *deck, uint32_t lane, uint32_t budget, uint32_t *made)
 {

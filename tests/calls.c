@@ -77,20 +77,26 @@ static void list_of(uint32_t lane, uint32_t lent, int clears)
 static void letter_r4(const uint32_t *f) { answer(gd_update_start(&deck, f[0], f[1], f[2], f[3], 0)); }
 static void letter_r5(const uint32_t *f) { answer(gd_update_start(&deck, f[0], f[1], f[2], f[3], f[4])); }
 static void letter_u(const uint32_t *f) { answer(gd_update_step(&deck, f[0])); }
-static void letter_q(const uint32_t *f) { answer(gd_query_start(&deck, f[0], f[1], f[2], f[3], f[4])); }
+static void ask(uint32_t kind, const uint32_t *f, uint32_t radius)
+{
+    answer(gd_query_start(&deck, f[0], kind, f[1], f[2], f[3], f[4], radius));
+}
+static void letter_q(const uint32_t *f) { ask(GURTHEDDU_CENTRE, f, 0); }
+static void letter_t(const uint32_t *f) { ask(GURTHEDDU_TOUCHING, f, f[5]); }
+static void letter_w(const uint32_t *f) { ask(GURTHEDDU_WITHIN, f, f[5]); }
 static void letter_s(const uint32_t *f) { answer(gd_query_step(&deck, f[0])); }
 static void letter_c(const uint32_t *f) { list_of(f[0], GURTHEDDU_LIST, 1); }
 static void letter_l(const uint32_t *f) { list_of(f[0], GURTHEDDU_LIST, 0); }
 static void letter_x(const uint32_t *f) { answer(gd_clear(&deck, f[0])); }
 
-enum { FIELDS_MAX = 5 };
+enum { FIELDS_MAX = 6 };
 static const struct letter {
     char letter;
     int fields;
     void (*run)(const uint32_t *fields);
 } letters[] = {
     {'R', 4, letter_r4}, {'R', 5, letter_r5}, {'U', 1, letter_u}, {'Q', 5, letter_q}, {'S', 1, letter_s},
-    {'C', 1, letter_c}, {'L', 1, letter_l}, {'X', 1, letter_x},
+    {'C', 1, letter_c}, {'L', 1, letter_l}, {'X', 1, letter_x}, {'T', 6, letter_t}, {'W', 6, letter_w},
 };
 
 /* A number of a script: decimal, 0 to 4,294,967,295, no sign, no needless leading zero. Gives what follows it, or NULL. */
@@ -231,10 +237,12 @@ static const struct table {
     {"updates", "slot", deck.updaters + GURTHEDDU_U_SLOT, 8, GURTHEDDU_UPDATER, 0, NUMBER},
     {"updates", "moved", deck.updaters + GURTHEDDU_U_MOVED, 8, GURTHEDDU_UPDATER, 0, NUMBER},
     {"updates", "unlinked", deck.updaters + GURTHEDDU_U_UNLINKED, 8, GURTHEDDU_UPDATER, 0, NUMBER},
+    {"queries", "kind", deck.queries + GURTHEDDU_Q_KIND, 4, GURTHEDDU_QUERY, 0, NUMBER},
     {"queries", "x0", deck.queries + GURTHEDDU_Q_X0, 4, GURTHEDDU_QUERY, 0, NUMBER},
     {"queries", "y0", deck.queries + GURTHEDDU_Q_Y0, 4, GURTHEDDU_QUERY, 0, NUMBER},
     {"queries", "x1", deck.queries + GURTHEDDU_Q_X1, 4, GURTHEDDU_QUERY, 0, NUMBER},
     {"queries", "y1", deck.queries + GURTHEDDU_Q_Y1, 4, GURTHEDDU_QUERY, 0, NUMBER},
+    {"queries", "radius", deck.queries + GURTHEDDU_Q_RADIUS, 4, GURTHEDDU_QUERY, 0, NUMBER},
     {"queries", "stamp", deck.queries + GURTHEDDU_Q_STAMP, 4, GURTHEDDU_QUERY, 0, NUMBER},
     {"queries", "hits", deck.queries + GURTHEDDU_Q_HITS, 4, GURTHEDDU_QUERY, 0, NUMBER},
     {"queries", "steps", deck.queries + GURTHEDDU_Q_STEPS, 4, GURTHEDDU_QUERY, 0, NUMBER},

@@ -100,7 +100,13 @@ awk 'function any(n) { seed = (seed * 16807) % 2147483647; return seed % n }
             else if (k < 70) print "S," any(5)
             else if (k < 76) printf "R,%d,%d,%d,%d\n", any(9), any(290), any(3000), any(16500)
             else if (k < 86) printf "R,%d,%d,%d,%d,%d\n", any(9), any(290), any(3000), any(16500), any(11)
-            else if (k < 93) { x = any(3000); y = any(9000); printf "Q,%d,%d,%d,%d,%d\n", any(5), x, y, x + any(4000) - 9, y + any(9000) - 9 }
+            else if (k < 93) {
+                x = any(3000); y = any(9000)
+                printf "%s,%d,%d,%d,%d,%d", substr("QTW", 1 + kind, 1), any(5), x, y, x + any(4000) - 9, y + any(9000) - 9
+                if (kind > 0) printf ",%d", any(520)
+                print ""
+                kind = (kind + 1) % 3
+            }
             else if (k < 96) print "C," any(5)
             else if (k < 98) print "L," any(5)
             else if (k < 99) print "X," any(5)

@@ -35,7 +35,7 @@ static void mix(void)
         case 2: case 3: case 4: seen |= gd_update_run(&deck, any(9), any(6), &made); break;
         case 5: case 6: seen |= gd_query_run(&deck, any(5), any(12), &made); break;
         default:
-            seen |= gd_query_start(&deck, any(5), 0, 0, x, y);
+            seen |= gd_query_start(&deck, any(5), any(3), 0, 0, x, y, any(512));
             seen |= gd_read(&deck, any(5), list, any(GURTHEDDU_LIST + 1), &steps, &filled);
             seen |= gd_collect(&deck, any(5), list, any(GURTHEDDU_LIST + 1), &steps, &filled);
             seen |= gd_rewind(&deck);

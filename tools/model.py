@@ -22,8 +22,10 @@ ALL = 4294967295  # the largest number of 32 bits
 
 # Numbers of a lane.
 CARRIER, X, Y, MARK, STAGE, CELL, BUCKET, SLOT, MOVED, UNLINKED = range(10)
-Q_X0, Q_Y0, Q_X1, Q_Y1, Q_STAMP, Q_HITS, Q_STEPS, Q_STAGE, Q_CELL, Q_BUCKET, Q_LEFT = range(11)
+Q_KIND, Q_X0, Q_Y0, Q_X1, Q_Y1, Q_RADIUS, Q_STAMP, Q_HITS, Q_STEPS, Q_STAGE, Q_CELL, Q_BUCKET, Q_LEFT = range(13)
+QUERY = 13  # how many numbers a query lane has
 IDLE, ENTER, READ, FINISHED = range(4)
+TOUCHING, WITHIN, CENTRE = range(3)  # the kinds of questions: T, W, Q
 
 
 class Refused(Exception):
@@ -141,7 +143,7 @@ class Deck:
             words[CURRENT + i] = words[FORMER + i] = NO_PLACE
             words[POOL + i] = i
         words[HEIGHT] = 512
-        for lanes, n in ((self.times, TIMES), (self.updaters, 80), (self.queries, 44)):
+        for lanes, n in ((self.times, TIMES), (self.updaters, 80), (self.queries, 4 * QUERY)):
             for i in range(n):
                 lanes[i] = 0
         return 0
@@ -321,29 +323,35 @@ class Deck:
 
     # ---- sweeps
 
-    def query_start(self, lane, x0, y0, x1, y1):
-        return self.call(self.start_query, lane, x0, y0, x1, y1)
-
-    def start_query(self, lane, x0, y0, x1, y1):
+    def lane_of(self, lane):
+        """The numbers of a query lane, which have to name a stage and a kind of question."""
         unless(lane <= 3, 1)
-        stage = self.queries[11 * lane + Q_STAGE]
-        need(stage <= 3)
+        q = list(self.queries[QUERY * lane : QUERY * lane + QUERY])
+        need(q[Q_STAGE] <= 3 and q[Q_KIND] <= 2)
+        return q
+
+    def query_start(self, lane, kind, x0, y0, x1, y1, radius):
+        return self.call(self.start_query, lane, kind, x0, y0, x1, y1, radius)
+
+    def start_query(self, lane, kind, x0, y0, x1, y1, radius):
+        stage = self.lane_of(lane)[Q_STAGE]
+        need(kind <= 2)
         unless(stage == IDLE, 2)
         unless(max(x0, y0, x1, y1) <= 16383, 5)
         unless(x0 <= x1 and y0 <= y1, 6)
+        unless(kind == CENTRE or radius <= 511, 32)
         unless(self.words[CLOCK] < SPENT, 8)
-        first = y0 // 1024 * 16 + x0 // 1024
-        for i, value in enumerate((x0, y0, x1, y1, self.draw(), 0, 0, ENTER, first, 0, 0)):
-            self.put(self.queries, 11 * lane + i, value)
+        q = [kind, x0, y0, x1, y1, radius, 0, 0, 0, ENTER, 0, 0, 0]
+        q[Q_STAMP], q[Q_CELL] = self.draw(), self.walk(q)[0]
+        for i, value in enumerate(q):
+            self.put(self.queries, QUERY * lane + i, value)
         return 0
 
     def query_step(self, lane):
         return self.call(self.step_query, lane)
 
     def step_query(self, lane):
-        unless(lane <= 3, 1)
-        q = list(self.queries[11 * lane : 11 * lane + 11])
-        need(q[Q_STAGE] <= 3)
+        q = self.lane_of(lane)
         unless(q[Q_STAGE] != IDLE, 3)
         unless(q[Q_STAGE] != FINISHED, 9)
         if q[Q_STAGE] == ENTER:
@@ -354,18 +362,31 @@ class Deck:
         """The sweep has made a step and goes on to what comes next."""
         steps = self.within(q[Q_STEPS] + 1, ALL)
         for i, value in enumerate((q[Q_HITS], steps, stage, cell, bucket, left)):
-            self.put(self.queries, 11 * lane + Q_HITS + i, value)
+            self.put(self.queries, QUERY * lane + Q_HITS + i, value)
         return 22 if stage == FINISHED else 0
 
-    def corners(self, q):
-        """Corners as a start would accept them."""
-        need(max(q[:4]) <= 16383 and q[Q_X0] <= q[Q_X1] and q[Q_Y0] <= q[Q_Y1])
+    def in_range(self, q):
+        """A question as a start would accept it."""
+        need(max(q[Q_X0 : Q_Y1 + 1]) <= 16383 and q[Q_X0] <= q[Q_X1] and q[Q_Y0] <= q[Q_Y1])
+        need(q[Q_KIND] == CENTRE or q[Q_RADIUS] <= 511)
 
     def walk(self, q):
-        """The cells of the walk, by row and then by column."""
-        self.corners(q)
-        rows = range(q[Q_Y0] // 1024, q[Q_Y1] // 1024 + 1)
-        return [16 * row + column for row in rows for column in range(q[Q_X0] // 1024, q[Q_X1] // 1024 + 1)]
+        """The cells of the walk, by row and then by column: T's rectangle is grown by the radius and cut."""
+        self.in_range(q)
+        grown = q[Q_RADIUS] if q[Q_KIND] == TOUCHING else 0
+        x0, y0 = (max(side - grown, 0) // 1024 for side in q[Q_X0 : Q_X0 + 2])
+        x1, y1 = (min(side + grown, 16383) // 1024 for side in q[Q_X1 : Q_X1 + 2])
+        return [16 * row + column for row in range(y0, y1 + 1) for column in range(x0, x1 + 1)]
+
+    def satisfies(self, q, x, y):
+        """Whether a place satisfies the question of a lane."""
+        x0, y0, x1, y1, radius = q[Q_X0 : Q_RADIUS + 1]
+        if q[Q_KIND] == TOUCHING:
+            dx, dy = max(x0 - x, 0, x - x1), max(y0 - y, 0, y - y1)
+            return dx * dx + dy * dy <= radius * radius
+        if q[Q_KIND] == WITHIN:
+            return min(x - x0, x1 - x, y - y0, y1 - y) >= radius
+        return x0 <= x <= x1 and y0 <= y <= y1
 
     def cell_done(self, lane, q, walk):
         at = walk.index(q[Q_CELL]) + 1
@@ -402,12 +423,12 @@ class Deck:
         return self.cell_done(lane, q, walk)
 
     def read(self, lane, q):
-        self.corners(q)
+        self.in_range(q)
         slot = self.slot_of(q[Q_BUCKET], q[Q_LEFT] - 1)
         stamp = self.times[slot]
         need(stamp != 0 and stamp >= -LAST_STAMP)
         carrier, x, y, mark = (self.words[column + slot] for column in (CARRIERS, XS, YS, MARKS))
-        if q[Q_X0] <= x <= q[Q_X1] and q[Q_Y0] <= y <= q[Q_Y1]:
+        if self.satisfies(q, x, y):
             if stamp < 0:
                 need(0 < q[Q_STAMP] <= LAST_STAMP)
             if stamp > 0 or -stamp > q[Q_STAMP]:
@@ -431,9 +452,7 @@ class Deck:
 
     def finished(self, lane):
         """The numbers of a lane whose sweep has finished."""
-        unless(lane <= 3, 1)
-        q = list(self.queries[11 * lane : 11 * lane + 11])
-        need(q[Q_STAGE] <= 3)
+        q = self.lane_of(lane)
         unless(q[Q_STAGE] != IDLE, 3)
         unless(q[Q_STAGE] == FINISHED, 10)
         return q
@@ -459,7 +478,7 @@ class Deck:
     def clear_lane(self, lane):
         self.finished(lane)
         for i in (Q_STAGE, Q_CELL, Q_BUCKET, Q_LEFT):
-            self.put(self.queries, 11 * lane + i, 0)
+            self.put(self.queries, QUERY * lane + i, 0)
         return 0
 
     def collect(self, lane, out, lent):
@@ -474,7 +493,7 @@ class Deck:
 
     def wind_back(self):
         stages = [self.updaters[10 * lane + STAGE] for lane in range(8)]
-        scans = [self.queries[11 * lane + Q_STAGE] for lane in range(4)]
+        scans = [self.queries[QUERY * lane + Q_STAGE] for lane in range(4)]
         need(max(stages) <= 14 and max(scans) <= 3)
         unless(not any(stages) and not any(scans), 30)
         for i, stamp in enumerate(self.times):

@@ -19,7 +19,8 @@ use Rattle.base.proofs.Table.{at-or, by-test, clash}
 use Rattle.hits.specs.Hits.{Hits}
 use Rattle.layout.specs.Place.{onGrid}
 use Rattle.layout.specs.Question.{cornersOn, ordered}
-use Rattle.layout.specs.declared.question.Question.{Question}
+use Rattle.regions.specs.Region.{rightRadius}
+use Rattle.regions.specs.declared.region.Region.{Region}
 use Rattle.index.specs.Search.{search}
 use Rattle.index.specs.Index.{Index, enter}
 use Rattle.slots.specs.Tuple.{tupleAt}
@@ -315,7 +316,7 @@ module _ (g g′ : Grid) (G : Good g) (G′ : Good g′) (B : Both g g′) (l : 
 
   -- ---- the start of a query
 
-  module _ (u : Question) (l< : l < 4) where
+  module _ (u : Region) (l< : l < 4) where
     abbrev τ : ℕ
     τ = g .tables .clock + 1
 
@@ -377,7 +378,7 @@ module _ (g g′ : Grid) (G : Good g) (G′ : Good g′) (B : Both g g′) (l : 
               ) (B .queries q));
         }
 
-  ask-same : (u : Question) → after (g .tables) qs (queryStart (g .tables) qs l u) .number ≢ 8
+  ask-same : (u : Region) → after (g .tables) qs (queryStart (g .tables) qs l u) .number ≢ 8
       → SameQ (g .updaters) (g′ .updaters) (after (g .tables) qs (queryStart (g .tables) qs l u))
       (after (g′ .tables) qs′ (queryStart (g′ .tables) qs′ l u))
   unfolding queryStart unless after
@@ -387,9 +388,10 @@ module _ (g g′ : Grid) (G : Good g) (G′ : Good g′) (B : Both g g′) (l : 
       let e = ap (λ (y : Query). isIdleQuery (y .stage)) (B .queries l) in
       by-test (ltb l 4)
       (λ h₁. by-test (isIdleQuery (q₀ .stage))
-      (λ h₂. by-test (cornersOn u)
-      (λ h₃. by-test (ordered u)
-      (λ h₄. by-test (ltb (g .tables .clock) 2147483600)
+      (λ h₂. by-test (cornersOn (u .area))
+      (λ h₃. by-test (ordered (u .area))
+      (λ h₄. by-test (rightRadius u)
+      (λ hr. by-test (ltb (g .tables .clock) 2147483600)
       (λ h₅. rw (
         z,
         z′,
@@ -398,12 +400,14 @@ module _ (g g′ : Grid) (G : Good g) (G′ : Good g′) (B : Both g g′) (l : 
         e ∙ h₂,
         h₃,
         h₄,
+        hr,
         h₅,
         lt-ltb (g′ .tables .clock) 2147483600
             (omega (arith, ltb-true (g .tables .clock) 2147483600 h₅, B .tables .clock)),
       )
       (λ n. record { number = refl; both = begun-both u (ltb-true l 4 h₁) }))
-      (λ h₅. rw (z, h₁, h₂, h₃, h₄, h₅) (λ n. absurd (n refl))))
+      (λ h₅. rw (z, h₁, h₂, h₃, h₄, hr, h₅) (λ n. absurd (n refl))))
+      (λ hr. rw (z, z′, h₁, h₂, e ∙ h₂, h₃, h₄, hr) (λ n. away 32)))
       (λ h₄. rw (z, z′, h₁, h₂, e ∙ h₂, h₃, h₄) (λ n. away 6)))
       (λ h₃. rw (z, z′, h₁, h₂, e ∙ h₂, h₃) (λ n. away 5)))
       (λ h₂. rw (z, z′, h₁, h₂, e ∙ h₂) (λ n. away 2)))

@@ -12,7 +12,7 @@ use Rattle.base.specs.Outcome.{Outcome, corrupt, done, need, pick, andThen}
 use Rattle.base.specs.Step.{Step, stepOf, lift}
 use Rattle.base.specs.Table.{at}
 use Rattle.base.proofs.Table.{clash}
-use Rattle.layout.specs.Question.{cornersOn, ordered, inside, visited}
+use Rattle.regions.specs.Region.{proper, inside, visited}
 use Rattle.locks.specs.Lock.{look}
 use Rattle.slots.specs.Stamp.{stampOf, stampRange}
 use Rattle.slots.specs.Tuple.{Tuples, Tuple, slotAt, tupleAt, needSlot, seen, read, seenBy}
@@ -174,7 +174,7 @@ module _ (O : ℕ → ℕ → Type 0) (t : Tables) (ts : List ℤ) (c : ℕ) (A 
     reads cell w = meet-lift {N = Next} {Q = λ (a b : Hits). a ≡ b} {R = Alike O} (withHits t) (withHits t′)
         (λ a b e. rw (← e) (same (withHits t a) refl refl))
         (meet-need (ltb (q .steps) 4294967295) (ltb (q .steps) 4294967295)
-        (meet-need (cornersOn (q .question) && ordered (q .question)) (cornersOn (q .question) && ordered (q .question))
+        (meet-need (proper (q .question)) (proper (q .question))
         (meet-need (not (eqb (w .left) 0)) (not (eqb (w .left) 0))
         (meet-then (reads-slot (w .bucket) (w .left - 1)) (λ v v′ R.
         meet-then (considers v v′ R) (λ a b e. rw (← e)

@@ -81,3 +81,7 @@ BUSY = 30
 -- mark over 9: the load mark of a report (document 02, request d); directly after crossed corners in the order of refusals
 abbrev pub TAG-OVER : ℕ
 TAG-OVER = 31
+
+-- radius over 511: of a question with a radius (document 02, request e); directly after crossed corners, before mark over 9
+abbrev pub RADIUS-OVER : ℕ
+RADIUS-OVER = 32

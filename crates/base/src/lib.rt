@@ -71,6 +71,8 @@ pub const BUSY: u32 = 30;
 
 pub const TAG_OVER: u32 = 31;
 
+pub const RADIUS_OVER: u32 = 32;
+
 // A change of the tables: refused as corrupt, or done.
 pub enum Change {
     Corrupt,

@@ -28,8 +28,8 @@ ten l a v0 v1 v2 v3 v4 v5 v6 v7 v8 v9 =
     let e9 : a + 9 ≡ suc (suc (suc (suc (suc (suc (suc (suc (suc a)))))))) = omega arith in
     rw (e1, e2, e3, e4, e5, e6, e7, e8, e9) refl
 
-pub eleven : (l : List ℕ) (a v0 v1 v2 v3 v4 v5 v6 v7 v8 v9 v10 : ℕ) → set (set (set (set (set (set (set (set (set (set (set l a v0) (a + 1) v1) (a + 2) v2) (a + 3) v3) (a + 4) v4) (a + 5) v5) (a + 6) v6) (a + 7) v7) (a + 8) v8) (a + 9) v9) (a + 10) v10 ≡ sets l a (v0 ∷ v1 ∷ v2 ∷ v3 ∷ v4 ∷ v5 ∷ v6 ∷ v7 ∷ v8 ∷ v9 ∷ v10 ∷ [])
-eleven l a v0 v1 v2 v3 v4 v5 v6 v7 v8 v9 v10 =
+pub thirteen : (l : List ℕ) (a v0 v1 v2 v3 v4 v5 v6 v7 v8 v9 v10 v11 v12 : ℕ) → set (set (set (set (set (set (set (set (set (set (set (set (set l a v0) (a + 1) v1) (a + 2) v2) (a + 3) v3) (a + 4) v4) (a + 5) v5) (a + 6) v6) (a + 7) v7) (a + 8) v8) (a + 9) v9) (a + 10) v10) (a + 11) v11) (a + 12) v12 ≡ sets l a (v0 ∷ v1 ∷ v2 ∷ v3 ∷ v4 ∷ v5 ∷ v6 ∷ v7 ∷ v8 ∷ v9 ∷ v10 ∷ v11 ∷ v12 ∷ [])
+thirteen l a v0 v1 v2 v3 v4 v5 v6 v7 v8 v9 v10 v11 v12 =
     let e1 : a + 1 ≡ suc a = omega arith in
     let e2 : a + 2 ≡ suc (suc a) = omega arith in
     let e3 : a + 3 ≡ suc (suc (suc a)) = omega arith in
@@ -40,4 +40,6 @@ eleven l a v0 v1 v2 v3 v4 v5 v6 v7 v8 v9 v10 =
     let e8 : a + 8 ≡ suc (suc (suc (suc (suc (suc (suc (suc a))))))) = omega arith in
     let e9 : a + 9 ≡ suc (suc (suc (suc (suc (suc (suc (suc (suc a)))))))) = omega arith in
     let e10 : a + 10 ≡ suc (suc (suc (suc (suc (suc (suc (suc (suc (suc a))))))))) = omega arith in
-    rw (e1, e2, e3, e4, e5, e6, e7, e8, e9, e10) refl
+    let e11 : a + 11 ≡ suc (suc (suc (suc (suc (suc (suc (suc (suc (suc (suc a)))))))))) = omega arith in
+    let e12 : a + 12 ≡ suc (suc (suc (suc (suc (suc (suc (suc (suc (suc (suc (suc a))))))))))) = omega arith in
+    rw (e1, e2, e3, e4, e5, e6, e7, e8, e9, e10, e11, e12) refl

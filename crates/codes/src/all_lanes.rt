@@ -24,7 +24,7 @@ pub fn stages_to(lanes: &[u32; 80], last: u32) -> bool
 }
 
 // No number of what comes next in a query is above the last one.
-pub fn scans_to(lanes: &[u32; 44], last: u32) -> bool
+pub fn scans_to(lanes: &[u32; 52], last: u32) -> bool
     ensures { λ r. ⌜ r ≡ scansTo (old lanes) last ⌝ }
 {
     let mut i: usize = 0;
@@ -38,7 +38,7 @@ pub fn scans_to(lanes: &[u32; 44], last: u32) -> bool
 }
 
 // 0 if every lane is idle, else 1.
-pub fn moving(updaters: &[u32; 80], queries: &[u32; 44]) -> u32
+pub fn moving(updaters: &[u32; 80], queries: &[u32; 52]) -> u32
     ensures { λ r. ⌜ eqb r 0 ≡ (stagesTo (old updaters) 0 && scansTo (old queries) 0) ⌝ }
 {
     if !stages_to(updaters, 0) {

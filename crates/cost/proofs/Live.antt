@@ -10,8 +10,9 @@ use native.Mathlib.Omega.{arith}
 use lib.Dec.{T}
 use lib.ListN.{length, length-append}
 use Rattle.base.specs.Lists.{In, Once, more, empty}
-use Rattle.layout.specs.Question.{walk, cellsTouched, Proper}
-use Rattle.layout.proofs.Walk.{Ascending, ends, climbs, walk-ascending, walk-length}
+use Rattle.regions.specs.Region.{proper, walk, cellsTouched}
+use Rattle.layout.proofs.Order.{Ascending, ends, climbs}
+use Rattle.regions.proofs.Walk.{walk-ascending, walk-length}
 use Rattle.grid.specs.Run.{Grid}
 use Rattle.base.specs.Sums.{bit}
 use Rattle.base.proofs.Sums.{bit-or}
@@ -33,7 +34,7 @@ pub record Live (y : Tally) (ks : List ℕ) (g : Grid) (s : Sweep) : Type 0 wher
   pub steps : s .steps ≡ y .count
   pub account : s .steps + y .rest ≡ length (s .entered) + total (s .entered)
   pub walk : visits (s .entered) ++ y .cells ≡ walk (s .question)
-  pub proper : Proper (s .question)
+  pub proper : proper (s .question) ≡ true
   pub objects : s .objects ≡ ks
   pub oss : List (List ℕ)
   pub meets : Meets ks (s .entered) oss

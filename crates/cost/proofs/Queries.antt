@@ -14,8 +14,8 @@ use Rattle.base.specs.Outcome.{Outcome, corrupt, blocked, done}
 use Rattle.base.specs.Step.{Step}
 use Rattle.base.specs.Table.{at}
 use Rattle.base.proofs.Table.{at-or, upd-same, upd-other, clash}
-use Rattle.layout.specs.declared.question.Question.{Question}
-use Rattle.layout.proofs.Walk.{visited-below}
+use Rattle.regions.specs.declared.region.Region.{Region}
+use Rattle.regions.proofs.Walk.{visited-below}
 use Rattle.readers.specs.declared.Standing.{Standing}
 use Rattle.query.specs.Scan.{scanNumber, enterStep, leaveStep, readStep}
 use Rattle.query.specs.declared.Scan.{Scan}
@@ -115,7 +115,7 @@ module _ (past : List Event) (g : Grid) (R : Rel past g) where
 
   -- ---- the start
 
-  module _ (l : ℕ) (u : Question) where
+  module _ (l : ℕ) (u : Region) where
     start-by : (r : Result (List Query)) → queryStart t (g .queries) l u ≡ r → Verdict r → Kept (startQuery l u) r
     unfolding after view
     start-by _ e (no n a) = refuses (startQuery l u) n a

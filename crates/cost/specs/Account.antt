@@ -11,8 +11,8 @@ use lib.ListN.{length}
 use Rattle.base.specs.Numbers.{DONE, BLOCKED, FINISHED, QUERY-FINISHED}
 use Rattle.base.specs.Outcome.{pick}
 use Rattle.base.specs.Table.{at, upd}
-use Rattle.layout.specs.Question.{walk, cellsTouched}
-use Rattle.layout.specs.declared.question.Question.{Question}
+use Rattle.regions.specs.Region.{walk, cellsTouched}
+use Rattle.regions.specs.declared.region.Region.{Region}
 use Rattle.cells.specs.Walk.{chainOf, tuplesIn}
 use Rattle.calls.specs.Call.{acceptedNumber}
 use Rattle.base.specs.Sums.{bit, countBelow}
@@ -56,12 +56,12 @@ history (c ∷ cs) g past = history cs (call c g .1) (eventOf c g ∷ past)
 pub record Deed : Type 0 where
   pub begins : Option (ℕ × ℕ)
   pub ends : Option ℕ
-  pub asks : Option (ℕ × Question)
+  pub asks : Option (ℕ × Region)
   pub goes : Option (ℕ × ℕ)
   pub collects : Option ℕ
   pub settles : Option (List ℕ)
 
-abbrev pub deedOf : Option (ℕ × ℕ) → Option ℕ → Option (ℕ × Question) → Option (ℕ × ℕ) → Option ℕ → Deed
+abbrev pub deedOf : Option (ℕ × ℕ) → Option ℕ → Option (ℕ × Region) → Option (ℕ × ℕ) → Option ℕ → Deed
 deedOf b e a g c = record { begins = b; ends = e; asks = a; goes = g; collects = c; settles = none }
 
 -- everything is settled: every update under way has ended, every query is abandoned, and the objects of the list are known
@@ -154,7 +154,7 @@ tally (e ∷ past) =
 -- updates: of each object, how many were under way at some time of it; objects: those known
 pub record Sweep : Type 0 where
   pub lane : ℕ
-  pub question : Question
+  pub question : Region
   pub steps : ℕ
   pub finished : Bool
   pub over : Bool
@@ -180,7 +180,7 @@ follow e past s =
     })
 
 -- at its start: the updates under way count
-abbrev pub opened : ℕ → Question → List Event → Sweep
+abbrev pub opened : ℕ → Region → List Event → Sweep
 opened l u past = record { lane = l; question = u; steps = 0; finished = false; over = false; entered = []; updates = λ k. countBelow 8 (λ j. onlyIf (underWay past j) (λ i. eqb i k) false); objects = known past }
 
 -- one that is not over is abandoned: it stays as it was
@@ -208,7 +208,7 @@ latest q [] = none
 latest q (s ∷ ss) = pick (eqb (s .lane) q) (some s) (latest q ss)
 
 -- ---- THE CLAIMS
--- K is `cellsTouched`, which is the length of the walk (`walk-length` in layout/proofs/Walk.antt).
+-- K is `cellsTouched` of the question, which is the length of its walk (`walk-length` in regions/proofs/Walk.antt).
 -- what was found in all cells, together; the cells in the order in which they were entered
 unfoldable pub total : List Found → ℕ
 total [] = 0

@@ -1,3 +1,4 @@
+pub mod Asked
 pub mod Claims
 pub mod Rewinds
 pub mod Still

@@ -8,7 +8,9 @@ use lib.ListN.{length, drop, getD}
 use Rattle.base.specs.Lists.{numbersFrom}
 use Rattle.base.specs.Outcome.{pick, one, need, await, andThen}
 use Rattle.layout.specs.Place.{onGrid, cellOf, encode, decode}
-use Rattle.layout.specs.Question.{corners, cornersOn, ordered, inside, visited, next, walk, rowsFrom, columns, rows, cellsTouched}
+use Rattle.layout.specs.Question.{corners, cornersOn, ordered}
+use Rattle.regions.specs.Region.{centre, cellsTouched}
+use Rattle.regions.specs.Trials.{opened as questions}
 use Rattle.index.specs.Search.{start as hash, search, probe, after as after#, known}
 use Rattle.index.specs.Index.{enter, enterAt, empty}
 use Rattle.index.specs.Places.{readPlace, putPlace, erasePlace, shift}
@@ -67,7 +69,7 @@ abbrev pub step : ℕ → Call
 step l = stepUpdate l
 
 abbrev pub sweep : ℕ → ℕ → ℕ → ℕ → ℕ → Call
-sweep l x0 y0 x1 y1 = startQuery l (record { x0 = x0; y0 = y0; x1 = x1; y1 = y1 })
+sweep l x0 y0 x1 y1 = startQuery l (centre (record { x0 = x0; y0 = y0; x1 = x1; y1 = y1 }))
 
 -- the numbers that the calls give, one after the other
 unfoldable pub numbersOf : List Answer → List ℕ
@@ -306,10 +308,10 @@ both s t h k = rw (gives-both s t, says-both s t, h, k)
 
 -- what the computations open
 unfoldable pub opened : ℕ
-unfolding gives says cellsTouched stages stageNo upd during duringBy account accountBy tallied history deed onlyIf underWay among
-    knownOf tally tallyStep queriesOf latest total walk rowsFrom columns rows chainOf bucketsFrom inFront tuplesIn
+unfolding questions gives says stages stageNo upd during duringBy account accountBy tallied history deed onlyIf underWay among
+    knownOf tally tallyStep queriesOf latest total chainOf bucketsFrom inFront tuplesIn
     sumBelow bit corners cornersOn ordered onGrid cellOf pick hash numbersOf sweeps collected steps call run answers
-    emptyGrid emptyTables inside visited next addReader takeReader leaveFor lookFrom enlist note counted afterCell
+    emptyGrid emptyTables addReader takeReader leaveFor lookFrom enlist note counted afterCell
     enterFree enterStep leaveLast leaveStep comparable consider readStep scanOn queryStart queryStep idleQueries
     isFinished isIdleQuery readQuery clearQuery cleared thenClear collectQuery entriesFrom seen read seenBy idleUpdaters after updateStart updateStep
     stepped started stageOn lift unless isIdle hasRoom rightLengths rightCells rightTuples rightIndex rightHits

@@ -6,7 +6,7 @@ use mathlib.Core.Option.{some}
 use mathlib.Core.List.{List}
 use Prim.Native.Nat.{ℕ}
 use Rattle.base.proofs.Table.{clash}
-use Rattle.layout.specs.declared.question.Question.{Question}
+use Rattle.regions.specs.declared.region.Region.{Region}
 use Rattle.grid.specs.Run.{Grid, Call, stepQuery, collect, read, Answer, call, run, answers}
 use Rattle.runs.specs.Sweeps.{query}
 use Rattle.freshness.specs.History.{Event, eventOf, recall, events, question, uncleared}
@@ -37,13 +37,13 @@ module _ (g₀ : Grid) (es₀ : List Event) (F₀ : Fine es₀ g₀) (cs : List 
     unfolding eventOf recall
     fine = call-fine (stepQuery q) (run cs g₀) es fine-of
 
-    pub freshness-of : (u : Question) × (question q es ≡ some u) × Freshness es q u (listOf (finishedFrom g₀ cs q) q)
+    pub freshness-of : (u : Region) × (question q es ≡ some u) × Freshness es q u (listOf (finishedFrom g₀ cs q) q)
     freshness-of =
         let w = finishes (run cs g₀) (fine-of .good) q e in
         let g = finishedFrom g₀ cs q in
         (query g q .question, asked es g fine q (w .0) (w .1), promised es g fine q (w .0) (w .1))
 
-    pub definition-of : (u : Question) × (question q es ≡ some u) × PaperFreshness es q u
+    pub definition-of : (u : Region) × (question q es ≡ some u) × PaperFreshness es q u
         (listOf (finishedFrom g₀ cs q) q)
     definition-of = let w = freshness-of in (w .0, w .1, paper es q (w .0) (listOf (finishedFrom g₀ cs q) q) (w .2))
 

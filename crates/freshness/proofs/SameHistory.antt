@@ -16,7 +16,7 @@ use borrow.Author.Tests.{eq-eqb, ne-eqb, eqb-true, ltb-true}
 use Rattle.base.specs.Lists.{In, in-or, in-none}
 use Rattle.base.specs.Outcome.{pick}
 use Rattle.base.proofs.Table.{upd-same, upd-other, at-or, by-test, clash}
-use Rattle.layout.specs.declared.question.Question.{Question}
+use Rattle.regions.specs.declared.region.Region.{Region}
 use Rattle.calls.specs.Call.{after, unless, acceptedNumber}
 use Rattle.queries.specs.Query.{isIdle as isIdleQuery, isFinished, queryStep}
 use Rattle.grid.specs.Run.{Grid, Call, startUpdate, stepUpdate, startQuery, stepQuery, collect, read, clear, rewind, call, run, answers, emptyGrid}
@@ -141,7 +141,7 @@ module _ (k : ℕ) (es : List Event) where
       go : (j : ℕ) (i : Hit) → Mem (begins j i) (ends l ∷ es) → i .oid ≡ k → Begun k es
       go j i (deeper m) o = record { lane = j; hit = i; there = m; object = o }
 
-  not-asked : (q : ℕ) (u : Question) → Begun k (asks q u ∷ es) → Begun k es
+  not-asked : (q : ℕ) (u : Region) → Begun k (asks q u ∷ es) → Begun k es
   not-asked q u B = go (B .lane) (B .hit) (B .there) (B .object)
     where
       go : (j : ℕ) (i : Hit) → Mem (begins j i) (asks q u ∷ es) → i .oid ≡ k → Begun k es
@@ -226,7 +226,7 @@ module _ (e : Entry) (ds : List Entry) (es : List Event) (T : Tie ds es) where
     }
 
   -- a query is asked
-  module _ (j : ℕ) (u : Question) (is : deed e ≡ deedOf none none (some (j, u)) none none) where
+  module _ (j : ℕ) (u : Region) (is : deed e ≡ deedOf none none (some (j, u)) none none) where
     -- the new one: no update has ended since, and those under way count
     asked-now : SameQuery j (opened j u ds) (asks j u ∷ es)
     unfolding question pick ended underWay

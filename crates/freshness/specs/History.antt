@@ -10,7 +10,7 @@ use Prim.Native.Nat.{ℕ, zero, suc, _<_}
 use lib.Dec.{eqb}
 use Rattle.base.specs.Numbers.{FINISHED}
 use Rattle.base.specs.Outcome.{pick}
-use Rattle.layout.specs.declared.question.Question.{Question}
+use Rattle.regions.specs.declared.region.Region.{Region}
 use Rattle.calls.specs.Call.{acceptedNumber}
 use Rattle.grid.specs.Run.{Call, startUpdate, stepUpdate, startQuery, stepQuery, collect, read, clear, rewind, Answer, answers, emptyGrid}
 use Rattle.base.specs.Spot.{Spot, Hit, hit}
@@ -28,7 +28,7 @@ pub data Event : Type 0 where
   settles : (ℕ → Option Spot) → Event
   begins : ℕ → Hit → Event
   ends : ℕ → Event
-  asks : ℕ → Question → Event
+  asks : ℕ → Region → Event
 
 -- what a call and the number that it gives tell, if anything: an accepted start, or a step of an update that gives 22
 unfoldable pub eventOf : Call → ℕ → Option Event
@@ -86,7 +86,7 @@ NoneUnderWay es = (l : ℕ) → l < 8 → underWay l es ≡ none
 -- ---- queries
 
 -- the question of the query of lane q, by its last accepted start
-unfoldable pub question : ℕ → List Event → Option Question
+unfoldable pub question : ℕ → List Event → Option Region
 question q [] = none
 question q (settles f ∷ es) = none
 question q (begins j h ∷ es) = question q es

@@ -37,7 +37,7 @@ use Rattle.update_run.proofs.Lanes.{update-run-calls}
 use Rattle.query_run.specs.Run.{runOne as runQuery, runLane as runQueries}
 use Rattle.query_run.proofs.Lanes.{query-run-calls}
 use Rattle.codes.specs.Updaters.{namesStage, updaterIn, withUpdater}
-use Rattle.codes.specs.Queries.{namesScan, queryIn, withQuery}
+use Rattle.codes.specs.Queries.{namesQuery, queryIn, withQuery}
 use Rattle.codes.proofs.Updaters.{updater-same, updater-below, updater-above}
 use Rattle.codes.proofs.Queries.{query-same, query-below, query-above}
 use Rattle.gurtheddu.specs.Coded.{codedRun, runUpdate, runSweep}
@@ -182,7 +182,7 @@ module _ (t : Tables) (l : ℕ) (q : Query) where
       let past = same-unless t q Still in
       past _ _ _ (past _ _ _ (past _ _ _ (past _ _ _ (same-scan _ (scan-moves t l q (q .stage)))))) (not-carried _ z) .lanes
 
-module _ (l : ℕ) (t : Tables) (ns : List ℕ) (ns# : length ns ≡ 44) (l< : l < 4) where
+module _ (l : ℕ) (t : Tables) (ns : List ℕ) (ns# : length ns ≡ 52) (l< : l < 4) where
   apart : (v : Query) (m : ℕ) → m ≢ l → queryIn (withQuery ns l v) m ≡ queryIn ns m
   apart v m i =
       by-test (ltb m l) (λ e. query-below ns l ns# l< v m (ltb-true m l e)) (λ e. query-above ns l ns# l< v m (beyond m l i (ltb-false m l e)))

@@ -25,9 +25,9 @@ use Rattle.queries.specs.One.{stepOne as queryOne}
 use Rattle.update_run.specs.Run.{runOne}
 use Rattle.query_run.specs.Run.{runOne as runQuery}
 use Rattle.codes.specs.Updaters.{codeStage, codeUpdater, stageIn, namesStage, updaterIn, withUpdater}
-use Rattle.codes.specs.Queries.{codeScan, codeQuery, scanIn, namesScan, queryIn, withQuery}
+use Rattle.codes.specs.Queries.{codeKind, codeScan, codeQuery, scanIn, kindIn, namesKind, namesQuery, queryIn, withQuery}
 use Rattle.codes.proofs.Updaters.{updater-same, stage-named}
-use Rattle.codes.proofs.Queries.{query-same, scan-named}
+use Rattle.codes.proofs.Queries.{query-same, scan-named, kind-named}
 use Rattle.gurtheddu.specs.Coded.{codedRun, runUpdate, runSweep}
 use Rattle.gurtheddu.specs.Runs.{callsOf, UpdateRunIsSteps, SweepRunIsSteps}
 use Rattle.gurtheddu.proofs.Runs.{run-still, update-still, query-still}
@@ -180,32 +180,39 @@ update-run-steps (suc n) l t ns ns# =
 
 -- ---- queries
 
-eleven-long : (q : Query) → length (codeQuery q) ≡ 11
+thirteen-long : (q : Query) → length (codeQuery q) ≡ 13
 unfolding codeQuery
-eleven-long q = refl
+thirteen-long q = refl
 
 module _ (l : ℕ) where
-  module _ (l< : l < 4) (ns : List ℕ) (v : Query) (ns# : length ns ≡ 44) where
-    query-fits : 11 * l + length (codeQuery v) ≤ length ns
-    query-fits = omega (arith, eleven-long v)
+  module _ (l< : l < 4) (ns : List ℕ) (v : Query) (ns# : length ns ≡ 52) where
+    query-fits : 13 * l + length (codeQuery v) ≤ length ns
+    query-fits = omega (arith, thirteen-long v)
 
-    queries-long : length (withQuery ns l v) ≡ 44
-    queries-long = length-sets ns (11 * l) (codeQuery v) ∙ ns#
+    queries-long : length (withQuery ns l v) ≡ 52
+    queries-long = length-sets ns (13 * l) (codeQuery v) ∙ ns#
 
-    query-named : namesScan (withQuery ns l v) l ≡ true
+    query-named : namesQuery (withQuery ns l v) l ≡ true
     unfolding codeQuery
-    query-named = ap (λ (k : ℕ). leb k 3) (stored-at ns (codeQuery v) (11 * l) query-fits 7) ∙ scan-named (v .stage)
+    query-named =
+        let first : 13 * l ≡ 13 * l + 0 = omega arith in
+        let scan : leb (scanIn (withQuery ns l v) l) 3 ≡ true =
+        ap (λ (k : ℕ). leb k 3) (stored-at ns (codeQuery v) (13 * l) query-fits 9) ∙ scan-named (v .stage) in
+        let kind : namesKind (kindIn (withQuery ns l v) l) ≡ true =
+        ap (λ (j : ℕ). leb (at (withQuery ns l v) j) 2) first
+        ∙ ap (λ (k : ℕ). leb k 2) (stored-at ns (codeQuery v) (13 * l) query-fits 0) ∙ kind-named (v .question .kind) in
+        rw (scan, kind)
 
     query-over : (w : Query) → withQuery (withQuery ns l v) l w ≡ withQuery ns l w
-    query-over w = stored-over ns (codeQuery v) (11 * l) query-fits (codeQuery w) (eleven-long w ∙ sym (eleven-long v))
+    query-over w = stored-over ns (codeQuery v) (13 * l) query-fits (codeQuery w) (thirteen-long w ∙ sym (thirteen-long v))
 
   -- a run of some steps: in a lane that is one, with a number that names a stage; with one that names none; in a lane that is none
   module _ (n : ℕ) (t : Tables) (ns : List ℕ) where
-    query-runs : ltb l 4 ≡ true → namesScan ns l ≡ true → runSweep (suc n) l t ns ≡ codedRun ns (withQuery ns l) (runSteps (λ t q. queryOne t l q) (suc n) t (queryIn ns l))
+    query-runs : ltb l 4 ≡ true → namesQuery ns l ≡ true → runSweep (suc n) l t ns ≡ codedRun ns (withQuery ns l) (runSteps (λ t q. queryOne t l q) (suc n) t (queryIn ns l))
     unfolding runSweep runQuery pick
     query-runs e g = rw (ne-eqb (suc n) 0 (λ z. omega arith), e, g)
 
-    query-nameless : ltb l 4 ≡ true → namesScan ns l ≡ false → runSweep (suc n) l t ns ≡ ranOf 12 0 t ns
+    query-nameless : ltb l 4 ≡ true → namesQuery ns l ≡ false → runSweep (suc n) l t ns ≡ ranOf 12 0 t ns
     unfolding runSweep pick
     query-nameless e g = rw (ne-eqb (suc n) 0 (λ z. omega arith), e, g)
 
@@ -213,11 +220,11 @@ module _ (l : ℕ) where
     unfolding runSweep pick
     query-laneless e = rw (ne-eqb (suc n) 0 (λ z. omega arith), e)
 
-  query-steps : ltb l 4 ≡ true → (n : ℕ) (t : Tables) (ns : List ℕ) → length ns ≡ 44 → namesScan ns l ≡ true
+  query-steps : ltb l 4 ≡ true → (n : ℕ) (t : Tables) (ns : List ℕ) → length ns ≡ 52 → namesQuery ns l ≡ true
       → codedRun ns (withQuery ns l) (runSteps (λ t q. queryOne t l q) n t (queryIn ns l)) ≡ callsOf (runSweep 1 l) n t ns
   query-steps e =
       let l< = ltb-true l 4 e in
-      coded-calls (λ t q. queryOne t l q) (λ t q. query-still t l q) 44 (λ ns. namesScan ns l) (λ ns. queryIn ns l) (λ ns. withQuery ns l)
+      coded-calls (λ t q. queryOne t l q) (λ t q. query-still t l q) 52 (λ ns. namesQuery ns l) (λ ns. queryIn ns l) (λ ns. withQuery ns l)
       (queries-long l<) (query-named l<) (λ ns v ns#. query-same ns l ns# l< v) (λ ns v w ns#. query-over l< ns v ns# w)
       (runSweep 1 l) (λ t ns g. query-runs 0 t ns e g)
 
@@ -227,7 +234,7 @@ unfolding runSweep callsOf pick
 query-run-steps zero l t ns ns# = refl
 query-run-steps (suc n) l t ns ns# =
     by-test (ltb l 4)
-    (λ e. by-test (namesScan ns l)
+    (λ e. by-test (namesQuery ns l)
     (λ g. query-runs l n t ns e g ∙ query-steps l e (suc n) t ns ns# g)
     (λ g. query-nameless l n t ns e g ∙ sym (calls-ends (runSweep 1 l) t ns n (ranOf 12 0 t ns) (query-nameless l 0 t ns e g) refl)))
     (λ e. query-laneless l n t ns e ∙ sym (calls-ends (runSweep 1 l) t ns n (ranOf 1 0 t ns) (query-laneless l 0 t ns e) refl))

@@ -1,13 +1,13 @@
 -- THE OPERATIONS OVER CODED LANES: each is the operation in one lane on what the lane's numbers say, and the lane's numbers afterwards are those of the
 -- lane that it leaves; a refused call, and a run that carries out no step, leaves them as they are.
--- A lane that is none comes first (1), then a number that names no stage (12): which of the other tests holds cannot be told without it.
+-- A lane that is none comes first (1), then a number that names no stage or no kind of question (12): the lane cannot be told without it.
 use mathlib.Core.List.{List}
 use Prim.Native.Nat.{ℕ}
 use lib.Dec.{eqb, ltb}
 use lib.ListN.{length, replicate}
 use Rattle.base.specs.Numbers.{DONE, NO-SUCH-LANE, CORRUPT}
 use Rattle.base.specs.Outcome.{pick}
-use Rattle.layout.specs.declared.question.Question.{Question}
+use Rattle.layout.specs.declared.question.Question.{Question as Rectangle}
 use Rattle.tables.specs.Tables.{Tables, rightLengths, emptyTables}
 use Rattle.calls.specs.Call.{Result, refused, answered, unless}
 use Rattle.calls.specs.Run.{Ran, ranOf}
@@ -17,7 +17,7 @@ use Rattle.queries.specs.One.{startOne as startQuery}
 use Rattle.query_run.specs.Run.{runOne as runQuery}
 use Rattle.collect.specs.One.{FillingOne, fillingOneOf, readOneInto, clearOne}
 use Rattle.codes.specs.Updaters.{namesStage, updaterIn, withUpdater}
-use Rattle.codes.specs.Queries.{namesScan, queryIn, withQuery}
+use Rattle.codes.specs.Queries.{namesKind, askedBy, namesQuery, queryIn, withQuery}
 use Rattle.codes.specs.Rest.{stagesTo, scansTo, updatersIn, queriesIn}
 use Rattle.rewind.specs.Rewind.{rewindTables}
 
@@ -45,33 +45,34 @@ runUpdate n l t ns =
     (pick (namesStage ns l) (codedRun ns (withUpdater ns l) (runOne n l t (updaterIn ns l))) (ranOf CORRUPT 0 t ns))
     (ranOf NO-SUCH-LANE 0 t ns))
 
--- A START of a query with the question u in lane l.
-unfoldable pub startSweep : Tables → List ℕ → ℕ → Question → Result (List ℕ)
-startSweep t ns l u =
+-- A START of a query in lane l: the number of its kind of question, its rectangle and its radius.
+unfoldable pub startSweep : Tables → List ℕ → ℕ → ℕ → Rectangle → ℕ → Result (List ℕ)
+startSweep t ns l k a r =
     unless (ltb l 4) NO-SUCH-LANE
-    (unless (namesScan ns l) CORRUPT
-    (coded (withQuery ns l) (startQuery t l (queryIn ns l) u)))
+    (unless (namesQuery ns l) CORRUPT
+    (unless (namesKind k) CORRUPT
+    (coded (withQuery ns l) (startQuery t l (queryIn ns l) (askedBy k a r)))))
 
 -- UP TO n STEPS of the query in lane l.
 unfoldable pub runSweep : ℕ → ℕ → Tables → List ℕ → Ran (List ℕ)
 runSweep n l t ns =
     pick (eqb n 0) (ranOf DONE 0 t ns)
     (pick (ltb l 4)
-    (pick (namesScan ns l) (codedRun ns (withQuery ns l) (runQuery n l t (queryIn ns l))) (ranOf CORRUPT 0 t ns))
+    (pick (namesQuery ns l) (codedRun ns (withQuery ns l) (runQuery n l t (queryIn ns l))) (ranOf CORRUPT 0 t ns))
     (ranOf NO-SUCH-LANE 0 t ns))
 
 -- A READING from lane l into the list out: the lanes' numbers are not among what is afterwards, they stay as they are.
 unfoldable pub readFrom : Tables → List ℕ → ℕ → List ℕ → FillingOne
 readFrom t ns l out =
     pick (ltb l 4)
-    (pick (namesScan ns l) (readOneInto t l (queryIn ns l) out) (fillingOneOf CORRUPT t 0 0 out))
+    (pick (namesQuery ns l) (readOneInto t l (queryIn ns l) out) (fillingOneOf CORRUPT t 0 0 out))
     (fillingOneOf NO-SUCH-LANE t 0 0 out)
 
 -- A CLEARING of lane l.
 unfoldable pub clearLane : Tables → List ℕ → ℕ → Result (List ℕ)
 clearLane t ns l =
     unless (ltb l 4) NO-SUCH-LANE
-    (unless (namesScan ns l) CORRUPT
+    (unless (namesQuery ns l) CORRUPT
     (coded (withQuery ns l) (clearOne t l (queryIn ns l))))
 
 -- the numbers of both kinds of lanes

@@ -4,7 +4,7 @@ use mathlib.Core.Path.{_≡_}
 use mathlib.Core.List.{List}
 use Prim.Native.Nat.{ℕ}
 use Rattle.base.specs.Lent.{Lent, old, new}
-use Rattle.layout.specs.declared.question.Question.{Question}
+use Rattle.layout.specs.declared.question.Question.{Question as Rectangle}
 use Rattle.tables.specs.Tables.{Tables}
 use Rattle.calls.specs.Call.{after, afterOf}
 use Rattle.calls.specs.Run.{ranOf}
@@ -19,9 +19,9 @@ StartsUpdate ns l k x y m n t t′ = after t (old ns) (startUpdate t (old ns) l 
 abbrev pub RunsUpdate : Lent (List ℕ) → ℕ → ℕ → Lent ℕ → ℕ → Tables → Tables → Type 0
 RunsUpdate ns l b made n t t′ = runUpdate b l t (old ns) ≡ ranOf n (new made) t′ (new ns)
 
--- A START of a query with the question u in lane l gives n.
-abbrev pub StartsSweep : Lent (List ℕ) → ℕ → Question → ℕ → Tables → Tables → Type 0
-StartsSweep ns l u n t t′ = after t (old ns) (startSweep t (old ns) l u) ≡ afterOf n t′ (new ns)
+-- A START of a query in lane l, of the question of kind k about the rectangle a with the radius r, gives n.
+abbrev pub StartsSweep : Lent (List ℕ) → ℕ → ℕ → Rectangle → ℕ → ℕ → Tables → Tables → Type 0
+StartsSweep ns l k a r n t t′ = after t (old ns) (startSweep t (old ns) l k a r) ≡ afterOf n t′ (new ns)
 
 -- A RUN of up to b steps of the query in lane l gives n.
 abbrev pub RunsSweep : Lent (List ℕ) → ℕ → ℕ → Lent ℕ → ℕ → Tables → Tables → Type 0

@@ -18,7 +18,7 @@ use Rattle.calls.specs.Run.{Ran, ranOf, later}
 use Rattle.update_run.specs.Run.{runLane}
 use Rattle.query_run.specs.Run.{runLane as runQueries}
 use Rattle.codes.specs.Updaters.{namesStage, updaterIn}
-use Rattle.codes.specs.Queries.{namesScan, queryIn}
+use Rattle.codes.specs.Queries.{namesQuery, queryIn}
 use Rattle.gurtheddu.specs.Coded.{runUpdate, runSweep}
 
 -- what is in the lanes k, k + 1, .., n of them
@@ -44,7 +44,7 @@ UpdateRunIsCalls =
 
 abbrev pub SweepRunIsCalls : Type 0
 SweepRunIsCalls =
-    (n l : ℕ) (t : Tables) (ns : List ℕ) → length ns ≡ 44 → l < 4 → namesScan ns l ≡ true
+    (n l : ℕ) (t : Tables) (ns : List ℕ) → length ns ≡ 52 → l < 4 → namesQuery ns l ≡ true
     → decodedRun queriesIn (runSweep n l t ns) ≡ runQueries n l t (queriesIn ns)
 
 -- ---- the same in C's own terms: a run of n steps is n runs of one step, which is what a step is there
@@ -60,4 +60,4 @@ abbrev pub UpdateRunIsSteps : Type 0
 UpdateRunIsSteps = (n l : ℕ) (t : Tables) (ns : List ℕ) → length ns ≡ 80 → runUpdate n l t ns ≡ callsOf (runUpdate 1 l) n t ns
 
 abbrev pub SweepRunIsSteps : Type 0
-SweepRunIsSteps = (n l : ℕ) (t : Tables) (ns : List ℕ) → length ns ≡ 44 → runSweep n l t ns ≡ callsOf (runSweep 1 l) n t ns
+SweepRunIsSteps = (n l : ℕ) (t : Tables) (ns : List ℕ) → length ns ≡ 52 → runSweep n l t ns ≡ callsOf (runSweep 1 l) n t ns

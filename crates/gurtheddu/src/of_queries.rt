@@ -1,51 +1,66 @@
 // The calls of range queries (document 01: sweep start, sweep steps in a row; document 02, request b: reading the list, clearing the lane).
 ghost use Rattle.tables.specs.Promise.{OnGrid};
-ghost use Rattle.queries.specs.Query.{questionOf};
+ghost use Rattle.codes.specs.Queries.{rectangleOf};
 ghost use Rattle.gurtheddu.specs.Promise.{StartsSweep, RunsSweep, ReadsFrom, ClearsLane};
 use base::CORRUPT;
 use base::DONE;
 use base::NO_SUCH_LANE;
 use base::QUERY_COUNT;
-use codes::query_lane::LAST_SCAN;
+use codes::query_lane::LAST_KIND;
 use codes::query_lane::QUERY_NUMBERS;
 use codes::query_lane::SCAN_AT;
+use codes::query_lane::kind_of;
 use codes::query_lane::load_query;
+use codes::query_lane::names_query;
 use codes::query_lane::seen_query;
 use codes::query_lane::store_begun;
 use codes::query_lane::store_idle;
 use codes::query_lane::store_query;
 use collect::clear::clear_one;
 use collect::read::read_one;
-use layout::question::Question;
-use layout::question::first_cell;
+use layout::question::Question as Rectangle;
 use queries::start::start_one;
 use query_run::run_query;
+use regions::region::Region;
+use regions::scan::first_cell;
 
-// Starts a query of a rectangle, given by its lower and its upper corner. Gives 0, or is refused with 1, 12 (the lane's number is none), 2, 5, 6 or 8.
+// Starts a query: its kind of question (0 touching, 1 within, 2 centre), the lower and the upper corner of its
+// rectangle, and its radius, which centre does not look at. Gives 0, or is refused with 1, 12 (the lane's numbers, or
+// the kind, name nothing), 2, 5, 6, 32 or 8.
 #[no_mangle]
 pub extern "C" fn gurtheddu_query_start(
-    queries: &mut [u32; 44],
+    queries: &mut [u32; 52],
     lane: u32,
+    kind: u32,
     x0: u32,
     y0: u32,
     x1: u32,
     y1: u32,
+    radius: u32,
     words: &mut [u32; 16898],
     times: &[i32; 2048],
 ) -> u32
-    ensures { λ r. ⌜ OnGrid words times (StartsSweep queries lane (questionOf x0 y0 x1 y1) r) ⌝ }
+    ensures { λ r. ⌜ OnGrid words times (StartsSweep queries lane kind (rectangleOf x0 y0 x1 y1) radius r) ⌝ }
 {
     if lane >= QUERY_COUNT {
         return NO_SUCH_LANE;
     }
     let at = QUERY_NUMBERS * (lane as usize);
-    let stage = queries[at + SCAN_AT];
-    if stage > LAST_SCAN {
+    if !names_query(queries, at) {
         return CORRUPT;
     }
-    let question = Question { x0, y0, x1, y1 };
-    let p = seen_query(stage);
-    let one = start_one(p, lane, x0, y0, x1, y1, words, times);
+    if kind > LAST_KIND {
+        return CORRUPT;
+    }
+    let area = Rectangle { x0, y0, x1, y1 };
+    let asked = kind_of(kind);
+    let question = Region {
+        kind: asked,
+        area,
+        radius,
+    };
+    let p = seen_query(queries[at + SCAN_AT]);
+    let one = start_one(p, lane, question, words, times);
     if one.number != DONE {
         return one.number;
     }
@@ -56,10 +71,10 @@ pub extern "C" fn gurtheddu_query_start(
 }
 
 // So many steps of a query, ended by the first number that is not 0. Gives 0 if all of them did, else the first other number: 20 or 22, or is refused
-// with 1, 12 (the lane's number is none), 3, 9 or 12 (a stored number); and how many steps were carried out.
+// with 1, 12 (the lane's numbers name nothing), 3, 9 or 12 (a stored number); and how many steps were carried out.
 #[no_mangle]
 pub extern "C" fn gurtheddu_query_run(
-    queries: &mut [u32; 44],
+    queries: &mut [u32; 52],
     lane: u32,
     budget: u32,
     made: &mut u32,
@@ -76,7 +91,7 @@ pub extern "C" fn gurtheddu_query_run(
         return NO_SUCH_LANE;
     }
     let at = QUERY_NUMBERS * (lane as usize);
-    if queries[at + SCAN_AT] > LAST_SCAN {
+    if !names_query(queries, at) {
         return CORRUPT;
     }
     let q = load_query(queries, at);
@@ -91,10 +106,10 @@ pub extern "C" fn gurtheddu_query_run(
 }
 
 // Hands back the list of a finished query: four numbers for each entry over the front of the caller's list, how many numbers these are, and the steps
-// of the query. Nothing else changes. Gives 0, or is refused with 1, 12 (the lane's number is none), 3, 10, 11 or 12 (the number of hits).
+// of the query. Nothing else changes. Gives 0, or is refused with 1, 12 (the lane's numbers name nothing), 3, 10, 11 or 12 (the number of hits).
 #[no_mangle]
 pub extern "C" fn gurtheddu_read(
-    queries: &[u32; 44],
+    queries: &[u32; 52],
     lane: u32,
     out: &mut [u32],
     steps: &mut u32,
@@ -110,7 +125,7 @@ pub extern "C" fn gurtheddu_read(
         return NO_SUCH_LANE;
     }
     let at = QUERY_NUMBERS * (lane as usize);
-    if queries[at + SCAN_AT] > LAST_SCAN {
+    if !names_query(queries, at) {
         return CORRUPT;
     }
     let q = load_query(queries, at);
@@ -120,10 +135,10 @@ pub extern "C" fn gurtheddu_read(
     reading.number
 }
 
-// Idles the lane of a finished query. Gives 0, or is refused with 1, 12 (the lane's number is none), 3 or 10.
+// Idles the lane of a finished query. Gives 0, or is refused with 1, 12 (the lane's numbers name nothing), 3 or 10.
 #[no_mangle]
 pub extern "C" fn gurtheddu_clear(
-    queries: &mut [u32; 44],
+    queries: &mut [u32; 52],
     lane: u32,
     words: &[u32; 16898],
     times: &[i32; 2048],
@@ -134,7 +149,7 @@ pub extern "C" fn gurtheddu_clear(
         return NO_SUCH_LANE;
     }
     let at = QUERY_NUMBERS * (lane as usize);
-    if queries[at + SCAN_AT] > LAST_SCAN {
+    if !names_query(queries, at) {
         return CORRUPT;
     }
     let q = load_query(queries, at);

@@ -19,7 +19,7 @@ use updates::lanes::idle_updaters;
 #[no_mangle]
 pub extern "C" fn gurtheddu_reset(
     updaters: &mut [u32; 80],
-    queries: &mut [u32; 44],
+    queries: &mut [u32; 52],
     words: &mut [u32; 16898],
     times: &mut [i32; 2048],
 ) -> u32
@@ -40,7 +40,7 @@ pub extern "C" fn gurtheddu_reset(
 #[no_mangle]
 pub extern "C" fn gurtheddu_rewind(
     updaters: &[u32; 80],
-    queries: &[u32; 44],
+    queries: &[u32; 52],
     words: &mut [u32; 16898],
     times: &mut [i32; 2048],
 ) -> u32

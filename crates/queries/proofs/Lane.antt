@@ -5,7 +5,7 @@ use Prim.Native.Nat.{ℕ, _≤_}
 use lib.ListN.{getD}
 use borrow.Author.Tests.{le-ltb}
 use Rattle.base.specs.Outcome.{pick}
-use Rattle.layout.specs.declared.question.Question.{Question}
+use Rattle.regions.specs.declared.region.Region.{Region}
 use Rattle.query.specs.declared.Query.{Query}
 use Rattle.tables.specs.Tables.{Tables, rightLengths}
 use Rattle.calls.specs.Call.{Result, answered, after, afterOf, placed}
@@ -18,11 +18,12 @@ module _ (t : Tables) (qs : List Query) (l : ℕ) where
   abbrev lane : Query
   lane = getD qs l idleQuery
 
-  pub start-in : (u : Question) → after t qs (queryStart t qs l u) ≡ placed qs l (after t lane (startOne t l lane u))
+  pub start-in : (u : Region) → after t qs (queryStart t qs l u) ≡ placed qs l (after t lane (startOne t l lane u))
   unfolding queryStart startOne after
   start-in u =
       past idleQuery t qs l _ 12 _ _ (past idleQuery t qs l _ 1 _ _ (past idleQuery t qs l _ 2 _ _
-      (past idleQuery t qs l _ 5 _ _ (past idleQuery t qs l _ 6 _ _ (past idleQuery t qs l _ 8 _ _ refl)))))
+      (past idleQuery t qs l _ 5 _ _ (past idleQuery t qs l _ 6 _ _ (past idleQuery t qs l _ 32 _ _
+      (past idleQuery t qs l _ 8 _ _ refl))))))
 
   pub step-in : after t qs (queryStep t qs l) ≡ placed qs l (after t lane (stepOne t l lane))
   unfolding queryStep stepOne
@@ -32,7 +33,7 @@ module _ (t : Tables) (qs : List Query) (l : ℕ) where
 
   -- a lane that is none
   module _ (h : 4 ≤ l) (n : ℕ) (e : n ≡ pick (rightLengths t) 1 12) where
-    pub start-none : (u : Question) → after t qs (queryStart t qs l u) ≡ afterOf n t qs
+    pub start-none : (u : Region) → after t qs (queryStart t qs l u) ≡ afterOf n t qs
     unfolding queryStart
     start-none u = rw (le-ltb l 4 h, e) (no-such t qs (rightLengths t) _)
 

@@ -3,7 +3,7 @@
 use mathlib.Core.Path.{_≡_}
 use mathlib.Core.List.{List}
 use Prim.Native.Nat.{ℕ}
-use Rattle.layout.specs.declared.question.Question.{Question}
+use Rattle.regions.specs.declared.region.Region.{Region}
 use Rattle.tables.specs.Tables.{Tables}
 use Rattle.query.specs.Scan.{progressSays}
 use Rattle.query.specs.declared.Progress.{Progress}
@@ -15,7 +15,7 @@ use Rattle.queries.specs.declared.lanes.Swept.{Swept}
 use Rattle.queries.specs.declared.lanes.SweptOne.{SweptOne}
 
 -- A START of a query with the question u in lane l.
-abbrev pub Starts : List Query → ℕ → Question → Swept → Tables → Tables → Type 0
+abbrev pub Starts : List Query → ℕ → Region → Swept → Tables → Tables → Type 0
 Starts qs l u r t t′ = after t qs (queryStart t qs l u) ≡ afterOf (r .number) t′ (r .queries)
 
 -- A STEP of the query in lane l.
@@ -23,7 +23,7 @@ abbrev pub Steps : List Query → ℕ → Swept → Tables → Tables → Type 0
 Steps qs l r t t′ = after t qs (queryStep t qs l) ≡ afterOf (r .number) t′ (r .queries)
 
 -- The same of one lane, in which the query q is.
-abbrev pub StartsOne : Query → ℕ → Question → SweptOne → Tables → Tables → Type 0
+abbrev pub StartsOne : Query → ℕ → Region → SweptOne → Tables → Tables → Type 0
 StartsOne q l u r t t′ = after t q (startOne t l q u) ≡ afterOf (r .number) t′ (r .query)
 
 abbrev pub StepsOne : Query → ℕ → SweptOne → Tables → Tables → Type 0

@@ -1,5 +1,4 @@
 // The start of a query (document 01: sweep start).
-ghost use Rattle.queries.specs.Query.{questionOf};
 ghost use Rattle.tables.specs.Promise.{OnGrid};
 ghost use Rattle.queries.specs.Promise.{Starts, StartsOne};
 use crate::lanes::Swept;
@@ -14,28 +13,26 @@ use base::LANE_TAKEN;
 use base::NO_SUCH_LANE;
 use base::OFF_GRID;
 use base::QUERY_COUNT;
+use base::RADIUS_OVER;
 use calls::no_lane;
-use layout::question::Corners;
-use layout::question::Question;
-use layout::question::check_corners;
-use layout::question::first_cell;
 use query::Query;
 use query::Scan;
+use regions::region::Checked;
+use regions::region::Region;
+use regions::region::check_region;
+use regions::scan::first_cell;
 use tables::lengths::right_words;
 use words::CLOCK;
 
-// Starts a query of a rectangle, given by its lower and its upper corner, in a lane, given by value. Gives 0, or is refused with 12 (lengths), 1, 2, 5, 6 or 8.
+// Starts a query of a question in a lane, given by value. Gives 0, or is refused with 12 (lengths), 1, 2, 5, 6, 32 or 8.
 pub fn start_one(
     q: Query,
     lane: u32,
-    x0: u32,
-    y0: u32,
-    x1: u32,
-    y1: u32,
+    question: Region,
     words: &mut [u32],
     times: &[i32],
 ) -> SweptOne
-    ensures { λ r. ⌜ OnGrid words times (StartsOne q lane (questionOf x0 y0 x1 y1) r) ⌝ }
+    ensures { λ r. ⌜ OnGrid words times (StartsOne q lane question r) ⌝ }
 {
     if !right_words(words.len(), times.len()) {
         return SweptOne {
@@ -56,22 +53,27 @@ pub fn start_one(
             query: q,
         };
     }
-    let question = Question { x0, y0, x1, y1 };
-    let corners = check_corners(question);
-    match corners {
-        Corners::OffGrid => {
+    let checked = check_region(question);
+    match checked {
+        Checked::OffGrid => {
             return SweptOne {
                 number: OFF_GRID,
                 query: q,
             };
         }
-        Corners::Crossed => {
+        Checked::Crossed => {
             return SweptOne {
                 number: CROSSED_CORNERS,
                 query: q,
             };
         }
-        Corners::Accepted => {}
+        Checked::Wide => {
+            return SweptOne {
+                number: RADIUS_OVER,
+                query: q,
+            };
+        }
+        Checked::Accepted => {}
     }
     let clock = words[CLOCK];
     if clock >= CLOCK_SPENT {
@@ -96,18 +98,15 @@ pub fn start_one(
     }
 }
 
-// Starts a query of a rectangle in one of the lanes: what `start_one` does there.
+// Starts a query of a question in one of the lanes: what `start_one` does there.
 pub fn query_start(
     queries: [Query; 4],
     lane: u32,
-    x0: u32,
-    y0: u32,
-    x1: u32,
-    y1: u32,
+    question: Region,
     words: &mut [u32],
     times: &[i32],
 ) -> Swept
-    ensures { λ r. ⌜ OnGrid words times (Starts queries lane (questionOf x0 y0 x1 y1) r) ⌝ }
+    ensures { λ r. ⌜ OnGrid words times (Starts queries lane question r) ⌝ }
 {
     if lane >= QUERY_COUNT {
         let number = no_lane(words.len(), times.len());
@@ -115,7 +114,7 @@ pub fn query_start(
     }
     let at = lane as usize;
     let q = queries[at];
-    let one = start_one(q, lane, x0, y0, x1, y1, words, times);
+    let one = start_one(q, lane, question, words, times);
     let v = one.query;
     let mut next = queries;
     next[at] = v;

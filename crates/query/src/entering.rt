@@ -15,10 +15,10 @@ use crate::moving::one_more;
 use base::Attempt;
 use base::CELL_COUNT;
 use base::NO_BUCKET;
-use layout::question::is_visited;
 use locks::look_lock;
 use readers::Stood;
 use readers::add_reader;
+use regions::scan::is_visited;
 use words::CELLS;
 use words::FIRST;
 

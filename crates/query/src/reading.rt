@@ -16,10 +16,10 @@ use crate::Scan;
 use crate::moving::one_more;
 use hits::Noted;
 use hits::note_tuple;
-use layout::question::Corners;
-use layout::question::check_corners;
-use layout::question::is_inside;
 use readers::Standing;
+use regions::inside::is_inside;
+use regions::region::Checked;
+use regions::region::check_region;
 use slots::tuple::Seen;
 use slots::tuple::TupleRead;
 use slots::tuple::in_range;
@@ -72,7 +72,7 @@ pub fn read_step(
     if q.steps >= 4294967295 {
         return Progress::Corrupt;
     }
-    let Corners::Accepted = check_corners(q.question) else {
+    let Checked::Accepted = check_region(q.question) else {
         return Progress::Corrupt;
     };
     if s.left == 0 {

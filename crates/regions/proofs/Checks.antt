@@ -11,7 +11,7 @@ use Rattle.base.specs.Outcome.{Told, says, pick}
 use Rattle.layout.specs.Question.{cornersOn, ordered, Proper}
 use Rattle.layout.proofs.Bools.{not-so}
 use Rattle.layout.proofs.Corners.{proper-iff}
-use Rattle.regions.specs.Region.{radiusFits, proper, checks, checkedSays}
+use Rattle.regions.specs.Region.{rightRadius, proper, checks, checkedSays}
 use Rattle.regions.specs.declared.region.Region.{Region}
 use Rattle.regions.specs.declared.region.Checked.{Checked}
 use Rattle.regions.specs.declared.region.Checked.the-variants.{Accepted, OffGrid, Crossed, Wide}
@@ -62,11 +62,24 @@ accepts false b d h = absurd (false≢true h)
 
 module _ (g : Region) where
   -- a question in range has accepted corners and a radius that fits
-  pub proper-parts : proper g ≡ true → Proper (g .area) × (radiusFits (g .kind) (g .radius) ≡ true)
+  pub proper-parts : proper g ≡ true → Proper (g .area) × (rightRadius g ≡ true)
   unfolding proper
   proper-parts h =
-      let s = and-eq-true-iff (cornersOn (g .area) && ordered (g .area)) (radiusFits (g .kind) (g .radius)) .0 h in
+      let s = and-eq-true-iff (cornersOn (g .area) && ordered (g .area)) (rightRadius g) .0 h in
       (proper-iff (g .area) .1 (s .0), s .1)
+
+  -- its three tests hold
+  pub proper-tests : proper g ≡ true → (cornersOn (g .area) ≡ true) × (ordered (g .area) ≡ true) × (rightRadius g ≡ true)
+  unfolding proper
+  proper-tests h =
+      let s = and-eq-true-iff (cornersOn (g .area) && ordered (g .area)) (rightRadius g) .0 h in
+      let c = and-eq-true-iff (cornersOn (g .area)) (ordered (g .area)) .0 (s .0) in
+      (c .0, c .1, s .1)
+
+  -- and one whose three tests hold is in range
+  pub tests-proper : cornersOn (g .area) ≡ true → ordered (g .area) ≡ true → rightRadius g ≡ true → proper g ≡ true
+  unfolding proper
+  tests-proper a b d = rw (a, b, d)
 
   -- THE LAW: 0 is answered exactly where the question is in range
   pub checks-proper : (checks g ≡ says 0 []) ↔ (proper g ≡ true)
@@ -74,7 +87,7 @@ module _ (g : Region) where
   checks-proper =
       let a = cornersOn (g .area) in
       let b = ordered (g .area) in
-      let d = radiusFits (g .kind) (g .radius) in (
+      let d = rightRadius g in (
         (λ e. let t = told-accepted a b d e in rw (t .0, t .1, t .2)),
         (λ h. accepts a b d h),
       )
@@ -89,12 +102,12 @@ module _ (g : Region) where
   checks-crossed h = rw (h .0, h .1)
 
   pub checks-wide : (cornersOn (g .area) ≡ true) × (ordered (g .area) ≡ true)
-      → radiusFits (g .kind) (g .radius) ≡ false → checks g ≡ says 32 []
+      → rightRadius g ≡ false → checks g ≡ says 32 []
   unfolding checks pick
   checks-wide h k = rw (h .0, h .1, k)
 
   pub checks-fits : (cornersOn (g .area) ≡ true) × (ordered (g .area) ≡ true)
-      → radiusFits (g .kind) (g .radius) ≡ true → checks g ≡ says 0 []
+      → rightRadius g ≡ true → checks g ≡ says 0 []
   unfolding checks pick
   checks-fits h k = rw (h .0, h .1, k)
 
@@ -106,18 +119,18 @@ module _ (g : Region) where
     pub checked-off : r ≡ OffGrid → cornersOn (g .area) ≡ false
     unfolding checks
     checked-off p =
-        told-off (cornersOn (g .area)) (ordered (g .area)) (radiusFits (g .kind) (g .radius)) (e ∙ ap checkedSays p)
+        told-off (cornersOn (g .area)) (ordered (g .area)) (rightRadius g) (e ∙ ap checkedSays p)
 
     pub checked-crossed : r ≡ Crossed → (cornersOn (g .area) ≡ true) × (ordered (g .area) ≡ false)
     unfolding checks
     checked-crossed p =
-        told-crossed (cornersOn (g .area)) (ordered (g .area)) (radiusFits (g .kind) (g .radius)) (e ∙ ap checkedSays p)
+        told-crossed (cornersOn (g .area)) (ordered (g .area)) (rightRadius g) (e ∙ ap checkedSays p)
 
     pub checked-wide : r ≡ Wide
-        → (cornersOn (g .area) ≡ true) × (ordered (g .area) ≡ true) × (radiusFits (g .kind) (g .radius) ≡ false)
+        → (cornersOn (g .area) ≡ true) × (ordered (g .area) ≡ true) × (rightRadius g ≡ false)
     unfolding checks
     checked-wide p =
-        told-wide (cornersOn (g .area)) (ordered (g .area)) (radiusFits (g .kind) (g .radius)) (e ∙ ap checkedSays p)
+        told-wide (cornersOn (g .area)) (ordered (g .area)) (rightRadius g) (e ∙ ap checkedSays p)
 
 -- an answer of another variant than the first has another number than 0
 not-accepted : (r : Checked) → OneOf (1 ∷ 2 ∷ 3 ∷ []) (tagOf the-type r) → checkedSays r ≡ says 0 [] → ⊥

@@ -24,17 +24,21 @@ radiusFits Touching r = leb r 511
 radiusFits Within r = leb r 511
 radiusFits Centre r = true
 
+-- the radius that a question has
+abbrev pub rightRadius : Region → Bool
+rightRadius g = radiusFits (g .kind) (g .radius)
+
 -- IN RANGE, what a start accepts and what a stored question has to be:
 -- corners on the grid, in order, and a radius that fits
 unfoldable pub proper : Region → Bool
-proper g = area.cornersOn (g .area) && area.ordered (g .area) && radiusFits (g .kind) (g .radius)
+proper g = area.cornersOn (g .area) && area.ordered (g .area) && rightRadius g
 
 -- off the deck: 5; crossed corners: 6; radius over 511: 32; in this order
 unfoldable pub checks : Region → Told
 checks g =
     pick (area.cornersOn (g .area))
     (pick (area.ordered (g .area))
-    (pick (radiusFits (g .kind) (g .radius)) (says 0 []) (says 32 []))
+    (pick (rightRadius g) (says 0 []) (says 32 []))
     (says 6 []))
     (says 5 [])
 

@@ -112,9 +112,14 @@ unfoldable pub says : List Row → List (List ℕ)
 says [] = []
 says (r ∷ t) = r .says ∷ says t
 
--- THE PROOF: every row gives what document 02 says
-pub trials : gives table ≡ says table
-unfolding table numberRows pointRows cellRows gives says at checks radiusFits proper touching within satisfies inside
+-- what a computation about questions opens
+unfoldable pub opened : ℕ
+unfolding at checks radiusFits proper touching within satisfies inside
     walkedBy walk cellsTouched visited next area.cornersOn area.ordered area.inside area.walk area.rowsFrom area.columns
     area.rows area.cellsTouched area.visited area.next numbersFrom onGrid cellOf pick need tells
+opened = 0
+
+-- THE PROOF: every row gives what document 02 says
+pub trials : gives table ≡ says table
+unfolding opened table numberRows pointRows cellRows gives says
 trials = refl

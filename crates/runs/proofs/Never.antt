@@ -15,9 +15,8 @@ use Rattle.base.specs.Outcome.{Outcome, corrupt, pick}
 use Rattle.base.specs.Step.{Step}
 use Rattle.base.specs.Table.{at}
 use Rattle.base.proofs.Table.{at-or, clash}
-use Rattle.layout.specs.Question.{visited, inside}
-use Rattle.layout.proofs.Walk.{visited-below, visited-walk}
-use Rattle.layout.proofs.Corners.{proper-iff}
+use Rattle.regions.specs.Region.{visited, inside}
+use Rattle.regions.proofs.Walk.{visited-below, visited-walk}
 use Rattle.slots.specs.Stamp.{stampRange}
 use Rattle.slots.specs.Tuple.{tupleAt}
 use Rattle.hits.specs.Hits.{Hits, lookFrom}
@@ -199,7 +198,7 @@ module _ (t : Tables) (l : ℕ) (s : Query) (c : ℕ) (few : s .steps ≤ 655616
         let within = inside (s .question) (at (t .tuples .x) i) (at (t .tuples .y) i) in
         let seen = not (isBelow y) || ltb (s .stamp) (magnitude y) in
         clear _ _ _ steps-few
-        (clear _ _ _ (not-true _ (proper-iff (s .question) .0 (visited-walk (s .question) c v .0)))
+        (clear _ _ _ (not-true _ (visited-walk (s .question) c v .0))
         (clear _ _ _ (lt-leb 512 _ b<)
         (clear _ _ _ (le-ltb 4 _ r≤)
         (clear _ _ _ z

@@ -11,7 +11,8 @@ use borrow.Author.Tests.{ltb-true}
 use Rattle.base.proofs.Table.{at-or, clash, upd-same, upd-other}
 use Rattle.base.specs.Table.{upd}
 use Rattle.layout.specs.Question.{cornersOn, ordered}
-use Rattle.layout.specs.declared.question.Question.{Question}
+use Rattle.regions.specs.Region.{rightRadius}
+use Rattle.regions.specs.declared.region.Region.{Region}
 use Rattle.query.specs.declared.Scan.{Scan}
 use Rattle.query.specs.declared.Scan.the-variants.{Idle as IdleQuery, Enter, Read, Finished}
 use Rattle.query.specs.declared.Query.{Query}
@@ -88,7 +89,7 @@ query-begun g l v Z I l< was is early =
     )
 
 -- An accepted start of a query keeps the shape and the invariant: it draws a stamp, and the query stands in no bucket yet.
-pub query-begins : {O : StoreOps} {S : Store O} {gh : Ghost} (g : Grid) → Shape g → Inv S gh (view g) → (l : ℕ) (u : Question) (t′ : Tables) (qs′ : List Query)
+pub query-begins : {O : StoreOps} {S : Store O} {gh : Ghost} (g : Grid) → Shape g → Inv S gh (view g) → (l : ℕ) (u : Region) (t′ : Tables) (qs′ : List Query)
     → queryStart (g .tables) (g .queries) l u ≡ answered 0 t′ qs′ → QueryBegins S gh g t′ qs′
 unfolding queryStart
 query-begins {S = S} {gh = gh} g Z I l u t′ qs′ h =
@@ -96,9 +97,10 @@ query-begins {S = S} {gh = gh} g Z I l u t′ qs′ h =
     let h1 = unless-answered (rightLengths t) 12 _ h in
     let h2 = unless-answered (ltb l 4) 1 _ (h1 .1) in
     let h3 = unless-answered (isIdleQuery (getD (g .queries) l idleQuery .stage)) 2 _ (h2 .1) in
-    let h4 = unless-answered (cornersOn u) 5 _ (h3 .1) in
-    let h5 = unless-answered (ordered u) 6 _ (h4 .1) in
-    let h6 = unless-answered (ltb (t .clock) 2147483600) 8 _ (h5 .1) in
+    let h4 = unless-answered (cornersOn (u .area)) 5 _ (h3 .1) in
+    let h5 = unless-answered (ordered (u .area)) 6 _ (h4 .1) in
+    let hr = unless-answered (rightRadius u) 32 _ (h5 .1) in
+    let h6 = unless-answered (ltb (t .clock) 2147483600) 8 _ (hr .1) in
     let h7 = answered-one (h6 .1) in
     moved-to (QueryBegins S gh g) (h7 .0) (h7 .1)
     (query-begun g l (begun u (t .clock + 1)) Z I (ltb-true l 4 (h2 .0)) (idle-outside _ (h3 .0)) (entering-outside _) (ltb-true _ _ (h6 .0)))

@@ -3,9 +3,11 @@
 // Each call would be accepted: with the right lengths it is.
 // Everything else at its bounds and on damaged tables is run through the library in C, where no length can be wrong
 // (tests/calls).
-use layout::question::Question;
+use layout::question::Question as Rectangle;
 use query::Query;
 use query::Scan;
+use regions::region::Kind;
+use regions::region::Region;
 use stage::Stage;
 use stage::Updater;
 use test_show::same_numbers;
@@ -36,14 +38,23 @@ fn step_update(words: &mut [u32], times: &mut [i32]) -> u32 {
     updates::step::step_one(updater_at(Stage::TakeObject), 0, words, times).number
 }
 
-// A query of the point (0, 0), in cell 0.
-fn query_at(stage: Scan) -> Query {
-    let question = Question {
+// What is asked: the point (0, 0), in cell 0.
+fn question() -> Region {
+    let area = Rectangle {
         x0: 0,
         y0: 0,
         x1: 0,
         y1: 0,
     };
+    Region {
+        kind: Kind::Centre,
+        area,
+        radius: 0,
+    }
+}
+
+fn query_at(stage: Scan) -> Query {
+    let question = question();
     Query {
         question,
         stamp: 1,
@@ -54,7 +65,7 @@ fn query_at(stage: Scan) -> Query {
 }
 
 fn start_query(words: &mut [u32], times: &[i32]) -> u32 {
-    queries::start::start_one(query_at(Scan::Idle), 0, 0, 0, 0, 0, words, times).number
+    queries::start::start_one(query_at(Scan::Idle), 0, question(), words, times).number
 }
 
 fn step_query(words: &mut [u32], times: &[i32]) -> u32 {

@@ -6,10 +6,12 @@ use collect::clear::clear;
 use collect::read::read;
 use collect::read::read_into;
 use collect::whole::collect;
-use layout::question::Question;
+use layout::question::Question as Rectangle;
 use queries::lanes::is_idle;
 use query::Query;
 use query::Scan;
+use regions::region::Kind;
+use regions::region::Region;
 use test_show::end_line;
 use test_show::fill;
 use test_show::put;
@@ -26,11 +28,16 @@ use words::WORDS;
 
 // A query with so many hits, after 31 steps, at this stage.
 fn query_of(hits: u32, stage: Scan) -> Query {
-    let question = Question {
+    let area = Rectangle {
         x0: 0,
         y0: 0,
         x1: 1023,
         y1: 1023,
+    };
+    let question = Region {
+        kind: Kind::Centre,
+        area,
+        radius: 0,
     };
     Query {
         question,

@@ -1,9 +1,11 @@
 // Winds the clock back at the bounds of the operation: a spent clock, stamps at the ends of their range, lanes in motion, a
 // number too few. A line has a name and the number of documents 01 and 02; 'same' says that the words are as they were.
-use layout::question::Question;
+use layout::question::Question as Rectangle;
 use queries::lanes::idle_queries;
 use query::Query;
 use query::Scan;
+use regions::region::Kind;
+use regions::region::Region;
 use rewind::whole::rewind;
 use stage::Stage;
 use stage::Updater;
@@ -92,11 +94,16 @@ fn updaters_with(s: Stage) -> [Updater; 8] {
 // Lanes that are idle but for the last query.
 fn queries_with(s: Scan) -> [Query; 4] {
     let mut queries = idle_queries();
-    let question = Question {
+    let area = Rectangle {
         x0: 0,
         y0: 0,
         x1: 0,
         y1: 0,
+    };
+    let question = Region {
+        kind: Kind::Centre,
+        area,
+        radius: 0,
     };
     queries[3] = Query {
         question,

@@ -1,25 +1,29 @@
--- load_query decodes the eleven numbers of a lane.
+-- load_query decodes the thirteen numbers of a lane.
 use denote.Ref.{now}
 use Rattle.codes.proofs.Queries.{load-lane}
 use borrow.Author.Needs.{needs}
 use Rattle.codes.proofs.query_lane.load_query.Statement.{statement}
 use Rattle.codes.proofs.query_lane.load_query.Tie as tie
+use Rattle.codes.proofs.query_lane.kind_of.Reads as kind-of-reads
 use Rattle.codes.proofs.query_lane.scan_of.Reads as scan-of-reads
 
-mul-t6 : tie.Need-mul-t6
-mul-t6 c = search needs
+add-t8 : tie.Need-add-t8
+add-t8 c = search needs
 
-element-copy-out-t9 : tie.Need-element-copy-out-t9
-element-copy-out-t9 c = search needs
+mul-t9 : tie.Need-mul-t9
+mul-t9 c = search needs
 
-add-t10 : tie.Need-add-t10
-add-t10 c = search needs
+element-copy-out-t12 : tie.Need-element-copy-out-t12
+element-copy-out-t12 c = search needs
 
-mul-t11 : tie.Need-mul-t11
-mul-t11 c = search needs
+add-t13 : tie.Need-add-t13
+add-t13 c = search needs
 
-element-copy-out-t14 : tie.Need-element-copy-out-t14
-element-copy-out-t14 c = search needs
+mul-t14 : tie.Need-mul-t14
+mul-t14 c = search needs
+
+element-copy-out-t17 : tie.Need-element-copy-out-t17
+element-copy-out-t17 c = search needs
 
 add-scan-of : tie.Need-add-scan-of
 add-scan-of c = search needs
@@ -29,6 +33,24 @@ mul-scan-of c = search needs
 
 element-copy-out-scan-of : tie.Need-element-copy-out-scan-of
 element-copy-out-scan-of c = search needs
+
+add-kind-of : tie.Need-add-kind-of
+add-kind-of c = search needs
+
+mul-kind-of : tie.Need-mul-kind-of
+mul-kind-of c = search needs
+
+element-copy-out-kind-of : tie.Need-element-copy-out-kind-of
+element-copy-out-kind-of c = search needs
+
+mul-kind-of-2 : tie.Need-mul-kind-of-2
+mul-kind-of-2 c = search needs
+
+element-copy-out-kind-of-2 : tie.Need-element-copy-out-kind-of-2
+element-copy-out-kind-of-2 c = search needs
+
+kind-of-requires : tie.Need-kind-of-requires
+kind-of-requires c κs = search needs
 
 add-scan-of-2 : tie.Need-add-scan-of-2
 add-scan-of-2 c = search needs
@@ -78,48 +100,58 @@ element-copy-out-scan-of-6 c = search needs
 scan-of-requires : tie.Need-scan-of-requires
 scan-of-requires c κs = search needs
 
-add-t6 : tie.Need-add-t6
-add-t6 c = search needs
+add-t23 : tie.Need-add-t23
+add-t23 c = search needs
 
-mul-t10 : tie.Need-mul-t10
-mul-t10 c = search needs
+mul-t8 : tie.Need-mul-t8
+mul-t8 c = search needs
 
-element-copy-out-t24 : tie.Need-element-copy-out-t24
-element-copy-out-t24 c = search needs
+element-copy-out-t27 : tie.Need-element-copy-out-t27
+element-copy-out-t27 c = search needs
 
-add-t20 : tie.Need-add-t20
-add-t20 c = search needs
+add-t24 : tie.Need-add-t24
+add-t24 c = search needs
 
-mul-t21 : tie.Need-mul-t21
-mul-t21 c = search needs
+mul-t9-2 : tie.Need-mul-t9-2
+mul-t9-2 c = search needs
 
-element-copy-out-t19 : tie.Need-element-copy-out-t19
-element-copy-out-t19 c = search needs
+element-copy-out-t22 : tie.Need-element-copy-out-t22
+element-copy-out-t22 c = search needs
 
-add-t15 : tie.Need-add-t15
-add-t15 c = search needs
+add-t18 : tie.Need-add-t18
+add-t18 c = search needs
 
-mul-t16 : tie.Need-mul-t16
-mul-t16 c = search needs
+mul-t19 : tie.Need-mul-t19
+mul-t19 c = search needs
 
-element-copy-out-t14-2 : tie.Need-element-copy-out-t14-2
-element-copy-out-t14-2 c = search needs
+element-copy-out-t17-2 : tie.Need-element-copy-out-t17-2
+element-copy-out-t17-2 c = search needs
 
 returns : tie.Need-returns
-returns c = load-lane (now (c .before .before .before .before .before .before .before .before .before .before .before .before .args .lanes)) (c .before .before .before .before .before .before .before .before .before .before .before .before .args .at) _ (c .before .before .before .scan-of .ensures)
+returns c =
+    let at-kind-of = c .before .before .before .before .before .before .before .before .before in
+    let s = at-kind-of .before .before .before .before .before .before in
+    load-lane (now (s .args .lanes)) (s .args .at) _ _ (at-kind-of .kind-of .ensures) (c .before .before .before .scan-of .ensures)
 
 pub load-query-spec : {M : Type 1} → statement M
 load-query-spec =
     tie.close
     (tie.spec
-    mul-t6
-    element-copy-out-t9
-    add-t10
-    mul-t11
-    element-copy-out-t14
+    add-t8
+    mul-t9
+    element-copy-out-t12
+    add-t13
+    mul-t14
+    element-copy-out-t17
     add-scan-of
     mul-scan-of
     element-copy-out-scan-of
+    add-kind-of
+    mul-kind-of
+    element-copy-out-kind-of
+    mul-kind-of-2
+    element-copy-out-kind-of-2
+    kind-of-requires
     add-scan-of-2
     mul-scan-of-2
     element-copy-out-scan-of-2
@@ -136,13 +168,13 @@ load-query-spec =
     mul-scan-of-6
     element-copy-out-scan-of-6
     scan-of-requires
-    add-t6
-    mul-t10
-    element-copy-out-t24
-    add-t20
-    mul-t21
-    element-copy-out-t19
-    add-t15
-    mul-t16
-    element-copy-out-t14-2
+    add-t23
+    mul-t8
+    element-copy-out-t27
+    add-t24
+    mul-t9-2
+    element-copy-out-t22
+    add-t18
+    mul-t19
+    element-copy-out-t17-2
     returns)

@@ -1,9 +1,13 @@
--- store_begun stores the eleven numbers of a query that begins.
+-- store_begun stores the thirteen numbers of a query that begins.
 use denote.Ref.{now}
 use Rattle.codes.proofs.Queries.{store-first}
 use borrow.Author.Needs.{needs}
 use Rattle.codes.proofs.query_lane.store_begun.Statement.{statement}
 use Rattle.codes.proofs.query_lane.store_begun.Tie as tie
+use Rattle.codes.proofs.query_lane.code_kind.Reads as code-kind-reads
+
+code-kind-requires : tie.Need-code-kind-requires
+code-kind-requires c κs = search needs
 
 mul-lanes : tie.Need-mul-lanes
 mul-lanes c = search needs
@@ -101,13 +105,34 @@ mul-lanes-11 c = search needs
 element-write-lanes-11 : tie.Need-element-write-lanes-11
 element-write-lanes-11 c = search needs
 
+add-lanes-11 : tie.Need-add-lanes-11
+add-lanes-11 c = search needs
+
+mul-lanes-12 : tie.Need-mul-lanes-12
+mul-lanes-12 c = search needs
+
+element-write-lanes-12 : tie.Need-element-write-lanes-12
+element-write-lanes-12 c = search needs
+
+add-lanes-12 : tie.Need-add-lanes-12
+add-lanes-12 c = search needs
+
+mul-lanes-13 : tie.Need-mul-lanes-13
+mul-lanes-13 c = search needs
+
+element-write-lanes-13 : tie.Need-element-write-lanes-13
+element-write-lanes-13 c = search needs
+
 returns : tie.Need-returns
-returns c = store-first (now (c .args .lanes)) (c .args .at) _ _ _
+returns c =
+    let s = c .before .before in
+    store-first (now (s .args .lanes)) (s .args .at) _ _ _ _ (c .code-kind .ensures)
 
 pub store-begun-spec : {M : Type 1} → statement M
 store-begun-spec =
     tie.close
     (tie.spec
+    code-kind-requires
     mul-lanes
     element-write-lanes
     add-lanes
@@ -140,4 +165,10 @@ store-begun-spec =
     add-lanes-10
     mul-lanes-11
     element-write-lanes-11
+    add-lanes-11
+    mul-lanes-12
+    element-write-lanes-12
+    add-lanes-12
+    mul-lanes-13
+    element-write-lanes-13
     returns)

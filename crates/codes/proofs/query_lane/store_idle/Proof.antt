@@ -42,7 +42,7 @@ element-write-lanes-4 : tie.Need-element-write-lanes-4
 element-write-lanes-4 c = search needs
 
 returns : tie.Need-returns
-returns c = store-over (now (c .args .lanes)) (c .args .at)
+returns c = store-over (now (c .args .lanes)) (c .args .at) (c .pre .1)
 
 pub store-idle-spec : {M : Type 1} → statement M
 store-idle-spec =

@@ -1,10 +1,14 @@
--- store_query stores the eleven numbers of a lane.
+-- store_query stores the thirteen numbers of a lane.
 use denote.Ref.{now}
 use Rattle.codes.proofs.Queries.{store-lane}
 use borrow.Author.Needs.{needs}
 use Rattle.codes.proofs.query_lane.store_query.Statement.{statement}
 use Rattle.codes.proofs.query_lane.store_query.Tie as tie
+use Rattle.codes.proofs.query_lane.code_kind.Reads as code-kind-reads
 use Rattle.codes.proofs.query_lane.code_scan.Reads as code-scan-reads
+
+code-kind-requires : tie.Need-code-kind-requires
+code-kind-requires c κs = search needs
 
 code-scan-requires : tie.Need-code-scan-requires
 code-scan-requires c κs = search needs
@@ -105,13 +109,35 @@ mul-lanes-11 c = search needs
 element-write-lanes-11 : tie.Need-element-write-lanes-11
 element-write-lanes-11 c = search needs
 
+add-lanes-11 : tie.Need-add-lanes-11
+add-lanes-11 c = search needs
+
+mul-lanes-12 : tie.Need-mul-lanes-12
+mul-lanes-12 c = search needs
+
+element-write-lanes-12 : tie.Need-element-write-lanes-12
+element-write-lanes-12 c = search needs
+
+add-lanes-12 : tie.Need-add-lanes-12
+add-lanes-12 c = search needs
+
+mul-lanes-13 : tie.Need-mul-lanes-13
+mul-lanes-13 c = search needs
+
+element-write-lanes-13 : tie.Need-element-write-lanes-13
+element-write-lanes-13 c = search needs
+
 returns : tie.Need-returns
-returns c = store-lane (now (c .before .before .before .args .lanes)) (c .before .before .before .args .at) _ _ (c .before .code-scan .ensures)
+returns c =
+    let at-code-kind = c .before .before in
+    let s = at-code-kind .before .before .before in
+    store-lane (now (s .args .lanes)) (s .args .at) _ _ _ (at-code-kind .code-kind .ensures) (c .before .code-scan .ensures)
 
 pub store-query-spec : {M : Type 1} → statement M
 store-query-spec =
     tie.close
     (tie.spec
+    code-kind-requires
     code-scan-requires
     mul-lanes
     element-write-lanes
@@ -145,4 +171,10 @@ store-query-spec =
     add-lanes-10
     mul-lanes-11
     element-write-lanes-11
+    add-lanes-11
+    mul-lanes-12
+    element-write-lanes-12
+    add-lanes-12
+    mul-lanes-13
+    element-write-lanes-13
     returns)

@@ -1,41 +1,50 @@
 -- gurtheddu_query_run does what `runSweep` says: one law of OfQueries.antt for each return.
-use mathlib.Core.Path.{_≡_}
+use mathlib.Core.Path.{_≡_, sym, _∙_}
+use mathlib.Core.Bool.{true}
+use borrow.Author.Tests.{not-true, not-false}
 use denote.Ref.{now}
+use Rattle.tables.specs.Tables.{Tables}
 use Rattle.tables.specs.Grid.{grid}
+use Rattle.codes.specs.Queries.{namesQuery}
 use Rattle.gurtheddu.proofs.OfQueries.{run-none, run-lane, run-nameless, run-still, run-moved}
 use borrow.Author.Needs.{needs}
 use Rattle.gurtheddu.proofs.of_queries.gurtheddu_query_run.Statement.{statement}
 use Rattle.gurtheddu.proofs.of_queries.gurtheddu_query_run.Tie as tie
 use Rattle.query_run.proofs.run_query.Reads as run-query-reads
 use Rattle.codes.proofs.query_lane.load_query.Reads as load-query-reads
+use Rattle.codes.proofs.query_lane.names_query.Reads as names-query-reads
 use Rattle.codes.proofs.query_lane.store_query.Reads as store-query-reads
+
+-- the tables that were lent
+abbrev whole : tie.Start → Tables
+whole s = grid (now (s .args .words)) (now (s .args .times))
+
+-- past the third test the lane's numbers name something
+named : (c : tie.Else3) → namesQuery (now (c .before .before .before .before .before .args .queries)) (c .before .before .before .before .before .args .lane) ≡ true
+named c = sym (c .before .names-query .ensures) ∙ not-false (c .before .names-query .result) (c .if3 .left)
 
 returns : tie.Need-returns
 returns c =
     let s = c .before in
-    run-none _ (s .args .lane) (grid (now (s .args .words)) (now (s .args .times))) (now (s .args .queries)) (c .if1 .taken)
+    run-none _ (s .args .lane) (whole s) (now (s .args .queries)) (c .if1 .taken)
 
 returns-2 : tie.Need-returns-2
 returns-2 c =
     let s = c .before .before in
-    run-lane _ (s .args .lane) (grid (now (s .args .words)) (now (s .args .times))) (now (s .args .queries)) (c .before .if1 .left) (c .if2 .taken)
+    run-lane _ (s .args .lane) (whole s) (now (s .args .queries)) (c .before .if1 .left) (c .if2 .taken)
 
 mul-at : tie.Need-mul-at
 mul-at c = search needs
 
-add-if3 : tie.Need-add-if3
-add-if3 c = search needs
-
-mul-if3 : tie.Need-mul-if3
-mul-if3 c = search needs
-
-element-copy-out-if3 : tie.Need-element-copy-out-if3
-element-copy-out-if3 c = search needs
+names-query-requires : tie.Need-names-query-requires
+names-query-requires c κs = search needs
 
 returns-3 : tie.Need-returns-3
 returns-3 c =
-    let s = c .before .before .before .before in
-    run-nameless _ (s .args .lane) (grid (now (s .args .words)) (now (s .args .times))) (now (s .args .queries)) (c .before .before .before .if1 .left) (c .before .before .if2 .left) (c .if3 .taken)
+    let at-if2 = c .before .before .before in
+    let s = at-if2 .before .before in
+    run-nameless _ (s .args .lane) (whole s) (now (s .args .queries)) (at-if2 .before .if1 .left) (at-if2 .if2 .left)
+    (sym (c .before .names-query .ensures) ∙ not-true (c .before .names-query .result) (c .if3 .taken))
 
 load-query-requires : tie.Need-load-query-requires
 load-query-requires c κs = search needs
@@ -45,18 +54,29 @@ run-query-requires c κs = search needs
 
 returns-4 : tie.Need-returns-4
 returns-4 c =
-    let s = c .before .before .before .before .before .before .before .before .before .before .before in
-    run-still _ (s .args .lane) (grid (now (s .args .words)) (now (s .args .times))) (now (s .args .queries)) (c .before .before .before .before .before .before .before .before .before .before .if1 .left) (c .before .before .before .before .before .before .before .before .before .if2 .left) (c .before .before .before .before .before .before .before .if3 .left) (c .before .before .before .before .before .load-query .result) (c .before .before .before .before .before .load-query .ensures) _ _ _ _
-    (c .before .before .run-query .ensures) (c .if4 .taken)
+    let at-run = c .before .before in
+    let at-load = at-run .before .before .before in
+    let at-if3 = at-load .before .before in
+    let at-if2 = at-if3 .before .before .before in
+    let s = at-if2 .before .before in
+    run-still _ (s .args .lane) (whole s) (now (s .args .queries)) (at-if2 .before .if1 .left) (at-if2 .if2 .left) (named at-if3)
+    (at-load .load-query .result) (at-load .load-query .ensures) _ _ _ _
+    (at-run .run-query .ensures) (c .if4 .taken)
 
 store-query-requires : tie.Need-store-query-requires
 store-query-requires c κs = search needs
 
 returns-5 : tie.Need-returns-5
 returns-5 c =
-    let s = c .before .before .before .before .before .before .before .before .before .before .before .before .before .before in
-    run-moved _ (s .args .lane) (grid (now (s .args .words)) (now (s .args .times))) (now (s .args .queries)) (c .before .before .before .before .before .before .before .before .before .before .before .before .before .if1 .left) (c .before .before .before .before .before .before .before .before .before .before .before .before .if2 .left) (c .before .before .before .before .before .before .before .before .before .before .if3 .left) (c .before .before .before .before .before .before .before .before .load-query .result) (c .before .before .before .before .before .before .before .before .load-query .ensures) _ _ _ _
-    (c .before .before .before .before .before .run-query .ensures) (c .before .before .before .if4 .left) _ (c .store-query .ensures)
+    let at-if4 = c .before .before .before in
+    let at-run = at-if4 .before .before in
+    let at-load = at-run .before .before .before in
+    let at-if3 = at-load .before .before in
+    let at-if2 = at-if3 .before .before .before in
+    let s = at-if2 .before .before in
+    run-moved _ (s .args .lane) (whole s) (now (s .args .queries)) (at-if2 .before .if1 .left) (at-if2 .if2 .left) (named at-if3)
+    (at-load .load-query .result) (at-load .load-query .ensures) _ _ _ _
+    (at-run .run-query .ensures) (at-if4 .if4 .left) _ (c .store-query .ensures)
 
 pub gurtheddu-query-run-spec : {M : Type 1} → statement M
 gurtheddu-query-run-spec =
@@ -65,9 +85,7 @@ gurtheddu-query-run-spec =
     returns
     returns-2
     mul-at
-    add-if3
-    mul-if3
-    element-copy-out-if3
+    names-query-requires
     returns-3
     load-query-requires
     run-query-requires

@@ -2,10 +2,11 @@
 use denote.Ref.{now}
 use Rattle.tables.specs.Tables.{Tables}
 use Rattle.tables.specs.Grid.{grid}
-use Rattle.lines.proofs.Arms.{query-case}
+use Rattle.lines.proofs.Arms.{query-case, asked-case}
 use borrow.Author.Needs.{needs}
 use Rattle.lines.proofs.query_lines.query_line.Statement.{statement}
 use Rattle.lines.proofs.query_lines.query_line.Tie as tie
+use Rattle.lines.proofs.query_lines.asked_of.Reads as asked-of-reads
 
 -- the tables that were lent
 abbrev whole : tie.Start → Tables
@@ -13,6 +14,9 @@ whole s = grid (now (s .args .words)) (now (s .args .times))
 
 enum-known-line : tie.Need-enum-known-line
 enum-known-line c = search needs
+
+asked-of-requires : tie.Need-asked-of-requires
+asked-of-requires c κs = search needs
 
 query-start-requires : tie.Need-query-start-requires
 query-start-requires c κs = search needs
@@ -28,9 +32,11 @@ same-length c = search needs
 
 returns : tie.Need-returns
 returns c =
-    let at-line = c .before .before .before .before .before in
+    let at-asked-of = c .before .before .before .before in
+    let at-line = at-asked-of .before .before in
     let s = at-line .before .before .before in
-    query-case (whole s) _ (at-line .line .given .1) (c .before .before .query-start .ensures)
+    query-case (whole s) _ (at-line .line .given .1)
+    (asked-case (whole s) _ _ (at-asked-of .asked-of .ensures) (c .before .before .query-start .ensures))
 
 same-length-2 : tie.Need-same-length-2
 same-length-2 c = search needs
@@ -46,6 +52,7 @@ query-line-spec =
     tie.close
     (tie.spec
     enum-known-line
+    asked-of-requires
     query-start-requires
     enum-known-line-2
     query-step-requires

@@ -9,13 +9,13 @@ use Rattle.words.specs.Map.{WORDS, TIMES}
 use Rattle.tables.specs.Tables.{Tables, rightLengths}
 use Rattle.tables.specs.Grid.{grid}
 use Rattle.tables.proofs.Grid.{grid-lengths, words-said, set-clock}
-use Rattle.layout.proofs.Corners.{corners-accepted, corners-off, corners-crossed}
-use Rattle.queries.proofs.Steps.{start-sizes, start-lane, start-taken, start-off, start-crossed, start-spent, start-done, as-tables}
+use Rattle.regions.proofs.Checks.{checked-accepted, checked-off, checked-crossed, checked-wide}
+use Rattle.queries.proofs.Steps.{start-sizes, start-lane, start-taken, start-off, start-crossed, start-wide, start-spent, start-done, as-tables}
 use borrow.Author.Needs.{needs}
 use Rattle.queries.proofs.start.start_one.Statement.{statement}
 use Rattle.queries.proofs.start.start_one.Tie as tie
-use Rattle.layout.proofs.question.check_corners.Reads as check-corners-reads
-use Rattle.layout.proofs.question.first_cell.Reads as first-cell-reads
+use Rattle.regions.proofs.region.check_region.Reads as check-region-reads
+use Rattle.regions.proofs.scan.first_cell.Reads as first-cell-reads
 use Rattle.queries.proofs.lanes.is_idle.Reads as is-idle-reads
 use Rattle.tables.proofs.lengths.right_words.Reads as right-words-reads
 
@@ -61,8 +61,8 @@ returns-3 c =
     (not-false (at-right-words .right-words .result) (at-if1 .if1 .left))) (at-if2 .if2 .left)
     (sym (c .before .is-idle .ensures) ∙ not-true (c .before .is-idle .result) (c .if3 .taken))
 
-check-corners-requires : tie.Need-check-corners-requires
-check-corners-requires c κs = search needs
+check-region-requires : tie.Need-check-region-requires
+check-region-requires c κs = search needs
 
 enum-told : tie.Need-enum-told
 enum-told c = search needs
@@ -78,7 +78,7 @@ returns-4 c =
     start-off (whole s) _ _ _ (sized at-right-words (not-false (at-right-words .right-words .result)
     (at-if1 .if1 .left))) (at-if2 .if2 .left) (sym (at-is-idle .is-idle .ensures) ∙ not-false
     (at-is-idle .is-idle .result) (at-if3 .if3 .left))
-    (corners-off _ (c .before .before .check-corners .ensures) (c .enum-told .given .1))
+    (checked-off _ (c .before .before .check-region .ensures) (c .enum-told .given .1))
 
 enum-told-2 : tie.Need-enum-told-2
 enum-told-2 c = search needs
@@ -94,10 +94,26 @@ returns-5 c =
     start-crossed (whole s) _ _ _ (sized at-right-words
     (not-false (at-right-words .right-words .result) (at-if1 .if1 .left))) (at-if2 .if2 .left)
     (sym (at-is-idle .is-idle .ensures) ∙ not-false (at-is-idle .is-idle .result) (at-if3 .if3 .left))
-    (corners-crossed _ (c .before .before .check-corners .ensures) (c .enum-told2 .given .1))
+    (checked-crossed _ (c .before .before .check-region .ensures) (c .enum-told2 .given .1))
 
 enum-told-3 : tie.Need-enum-told-3
 enum-told-3 c = search needs
+
+returns-6 : tie.Need-returns-6
+returns-6 c =
+    let at-if3 = c .before .before .before in
+    let at-is-idle = at-if3 .before in
+    let at-if2 = at-is-idle .before in
+    let at-if1 = at-if2 .before in
+    let at-right-words = at-if1 .before in
+    let s = at-right-words .before .before in
+    start-wide (whole s) _ _ _ (sized at-right-words
+    (not-false (at-right-words .right-words .result) (at-if1 .if1 .left))) (at-if2 .if2 .left)
+    (sym (at-is-idle .is-idle .ensures) ∙ not-false (at-is-idle .is-idle .result) (at-if3 .if3 .left))
+    (checked-wide _ (c .before .before .check-region .ensures) (c .enum-told3 .given .1))
+
+enum-told-4 : tie.Need-enum-told-4
+enum-told-4 c = search needs
 
 slice-read-clock : tie.Need-slice-read-clock
 slice-read-clock c =
@@ -105,11 +121,11 @@ slice-read-clock c =
     let at-right-words = at-if1 .before in
     omega (arith, (lent at-right-words (not-false (at-right-words .right-words .result) (at-if1 .if1 .left))) .0)
 
-returns-6 : tie.Need-returns-6
+returns-7 : tie.Need-returns-7
 unfolding grid
-returns-6 c =
-    let at-check-corners = c .before .before .before .before in
-    let at-if3 = at-check-corners .before in
+returns-7 c =
+    let at-check-region = c .before .before .before .before in
+    let at-if3 = at-check-region .before in
     let at-is-idle = at-if3 .before in
     let at-if2 = at-is-idle .before in
     let at-if1 = at-if2 .before in
@@ -118,7 +134,7 @@ returns-6 c =
     start-spent (whole s) _ _ _ (sized at-right-words
     (not-false (at-right-words .right-words .result) (at-if1 .if1 .left))) (at-if2 .if2 .left)
     (sym (at-is-idle .is-idle .ensures) ∙ not-false (at-is-idle .is-idle .result) (at-if3 .if3 .left))
-    (corners-accepted _ (at-check-corners .check-corners .ensures) (c .before .before .enum-told3 .given .1))
+    (checked-accepted _ (at-check-region .check-region .ensures) (c .before .before .enum-told4 .given .1))
     (c .if4 .taken)
 
 add-stamp : tie.Need-add-stamp
@@ -136,12 +152,12 @@ slice-write-words c =
 same-length : tie.Need-same-length
 same-length c = search needs
 
-returns-7 : tie.Need-returns-7
+returns-8 : tie.Need-returns-8
 unfolding grid
-returns-7 c =
-    let at-enum-told3 = c .before .before .before in
-    let at-check-corners = at-enum-told3 .before .before in
-    let at-if3 = at-check-corners .before in
+returns-8 c =
+    let at-enum-told4 = c .before .before .before in
+    let at-check-region = at-enum-told4 .before .before in
+    let at-if3 = at-check-region .before in
     let at-is-idle = at-if3 .before in
     let at-if2 = at-is-idle .before in
     let at-if1 = at-if2 .before in
@@ -150,7 +166,7 @@ returns-7 c =
     start-done (whole s) _ _ _ (sized at-right-words (not-false (at-right-words .right-words .result)
     (at-if1 .if1 .left))) (at-if2 .if2 .left) (sym (at-is-idle .is-idle .ensures) ∙ not-false
     (at-is-idle .is-idle .result) (at-if3 .if3 .left))
-    (corners-accepted _ (at-check-corners .check-corners .ensures) (at-enum-told3 .enum-told3 .given .1))
+    (checked-accepted _ (at-check-region .check-region .ensures) (at-enum-told4 .enum-told4 .given .1))
     (c .before .if4 .left) _ (c .first-cell .ensures) ∙ as-tables 0 _
     (sym (set-clock (now (s .args .words)) (now (s .args .times))
     ((lent at-right-words (not-false (at-right-words .right-words .result) (at-if1 .if1 .left))) .0) _))
@@ -164,16 +180,18 @@ start-one-spec =
     returns-2
     is-idle-requires
     returns-3
-    check-corners-requires
+    check-region-requires
     enum-told
     returns-4
     enum-told-2
     returns-5
     enum-told-3
-    slice-read-clock
     returns-6
+    enum-told-4
+    slice-read-clock
+    returns-7
     add-stamp
     first-cell-requires
     slice-write-words
     same-length
-    returns-7)
+    returns-8)

@@ -13,7 +13,7 @@ use Rattle.tables.specs.Grid.{grid}
 use borrow.Author.Needs.{needs}
 use Rattle.query.proofs.entering.enter_step.Statement.{statement}
 use Rattle.query.proofs.entering.enter_step.Tie as tie
-use Rattle.layout.proofs.question.is_visited.Reads as is-visited-reads
+use Rattle.regions.proofs.scan.is_visited.Reads as is-visited-reads
 use Rattle.locks.proofs.look_lock.Reads as look-lock-reads
 use Rattle.query.proofs.entering.enter_free.Reads as enter-free-reads
 

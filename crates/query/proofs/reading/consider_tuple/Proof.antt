@@ -7,7 +7,7 @@ use borrow.Author.Needs.{needs}
 use Rattle.query.proofs.reading.consider_tuple.Statement.{statement}
 use Rattle.query.proofs.reading.consider_tuple.Tie as tie
 use Rattle.hits.proofs.note_tuple.Reads as note-tuple-reads
-use Rattle.layout.proofs.question.is_inside.Reads as is-inside-reads
+use Rattle.regions.proofs.inside.is_inside.Reads as is-inside-reads
 use Rattle.query.proofs.reading.can_compare.Reads as can-compare-reads
 use Rattle.slots.proofs.tuple.is_seen.Reads as is-seen-reads
 

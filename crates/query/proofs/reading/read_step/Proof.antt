@@ -6,8 +6,7 @@ use borrow.Author.Tests.{lt-ltb, le-ltb, eq-eqb, ne-eqb}
 use Rattle.base.specs.Outcome.{need, andThen}
 use Rattle.base.specs.Step.{turnTells, turnLeaves}
 use Rattle.words.specs.Map.{TUPLES, TUPLES-SIZE, HITS, HITS-SIZE}
-use Rattle.layout.specs.Question.{cornersSays}
-use Rattle.layout.proofs.Corners.{proper-iff, refused-tests}
+use Rattle.regions.proofs.Checks.{checked-accepted, checked-refused}
 use Rattle.slots.specs.Tuple.{read}
 use Rattle.slots.proofs.Answers.{tuple-corrupt, tuple-at}
 use Rattle.hits.proofs.Answers.{noted-corrupt, noted-size}
@@ -18,7 +17,7 @@ use Rattle.query.proofs.Landing.{keeps, notes}
 use borrow.Author.Needs.{needs}
 use Rattle.query.proofs.reading.read_step.Statement.{statement}
 use Rattle.query.proofs.reading.read_step.Tie as tie
-use Rattle.layout.proofs.question.check_corners.Reads as check-corners-reads
+use Rattle.regions.proofs.region.check_region.Reads as check-region-reads
 use Rattle.query.proofs.moving.one_more.Reads as one-more-reads
 use Rattle.query.proofs.reading.consider_tuple.Reads as consider-tuple-reads
 use Rattle.slots.proofs.tuple.read_tuple.Reads as read-tuple-reads
@@ -29,8 +28,8 @@ returns c =
     let s = c .before .before .before in
     keeps (now (s .args .words)) (now (s .args .times)) _ _ (rw (le-ltb _ _ (c .if1 .taken)))
 
-check-corners-requires : tie.Need-check-corners-requires
-check-corners-requires c κs = search needs
+check-region-requires : tie.Need-check-region-requires
+check-region-requires c κs = search needs
 
 enum-told : tie.Need-enum-told
 enum-told c = search needs
@@ -42,21 +41,21 @@ returns-2 c =
     keeps (now (s .args .words)) (now (s .args .times)) _ _
     (rw (
       lt-ltb _ _ (c .before .before .if1 .left),
-      refused-tests _ (c .before .check-corners .result)
-          (c .before .check-corners .ensures) (c .match .keys2),
+      checked-refused _ (c .before .check-region .result)
+          (c .before .check-region .ensures) (c .match .keys2),
     ))
 
 returns-3 : tie.Need-returns-3
 unfolding readStep counted need andThen turnTells turnLeaves grid
 returns-3 c =
-    let at-check-corners = c .before .before .before .before in
-    let at-if1 = at-check-corners .before in
+    let at-check-region = c .before .before .before .before in
+    let at-if1 = at-check-region .before in
     let s = at-if1 .before .before .before in
     keeps (now (s .args .words)) (now (s .args .times)) _ _
     (rw (
       lt-ltb _ _ (at-if1 .if1 .left),
-      proper-iff _ .0
-          (at-check-corners .check-corners .ensures ∙ ap cornersSays (c .before .before .enum-told .given .1)),
+      checked-accepted _ (at-check-region .check-region .ensures)
+          (c .before .before .enum-told .given .1),
       eq-eqb _ _ (c .if2 .taken),
     ))
 
@@ -91,14 +90,14 @@ unfolding readStep counted need andThen turnTells turnLeaves grid
 returns-4 c =
     let at-if2 = c .before .before .before .before .before .before in
     let at-enum-told = at-if2 .before .before in
-    let at-check-corners = at-enum-told .before .before in
-    let at-if1 = at-check-corners .before in
+    let at-check-region = at-enum-told .before .before in
+    let at-if1 = at-check-region .before in
     let s = at-if1 .before .before .before in
     keeps (now (s .args .words)) (now (s .args .times)) _ _
     (rw (
       lt-ltb _ _ (at-if1 .if1 .left),
-      proper-iff _ .0
-          (at-check-corners .check-corners .ensures ∙ ap cornersSays (at-enum-told .enum-told .given .1)),
+      checked-accepted _ (at-check-region .check-region .ensures)
+          (at-enum-told .enum-told .given .1),
       ne-eqb _
           _ (at-if2 .if2 .left),
       tuple-corrupt (read _ _ _) (c .before .before .read-tuple .ensures)
@@ -136,15 +135,15 @@ returns-5 c =
     let at-read-tuple = at-read .before .before in
     let at-if2 = at-read-tuple .before .before .before .before in
     let at-enum-told = at-if2 .before .before in
-    let at-check-corners = at-enum-told .before .before in
-    let at-if1 = at-check-corners .before in
+    let at-check-region = at-enum-told .before .before in
+    let at-if1 = at-check-region .before in
     let s = at-if1 .before .before .before in
     notes (now (s .args .words)) (now (s .args .times)) _ _ (s .pre .0) (at-consider-tuple .consider-tuple .last .0)
     (at-consider-tuple .consider-tuple .kept .0 ∙ long (now (s .args .words)) (s .pre .0) HITS HITS-SIZE
     (omega arith)) (rw (
       lt-ltb _ _ (at-if1 .if1 .left),
-      proper-iff _ .0
-          (at-check-corners .check-corners .ensures ∙ ap cornersSays (at-enum-told .enum-told .given .1)),
+      checked-accepted _ (at-check-region .check-region .ensures)
+          (at-enum-told .enum-told .given .1),
       ne-eqb _
           _ (at-if2 .if2 .left),
       tuple-at (read _ _ _) (at-read-tuple .read-tuple .ensures) _
@@ -169,15 +168,15 @@ returns-6 c =
     let at-read-tuple = at-read .before .before in
     let at-if2 = at-read-tuple .before .before .before .before in
     let at-enum-told = at-if2 .before .before in
-    let at-check-corners = at-enum-told .before .before in
-    let at-if1 = at-check-corners .before in
+    let at-check-region = at-enum-told .before .before in
+    let at-if1 = at-check-region .before in
     let s = at-if1 .before .before .before in
     notes (now (s .args .words)) (now (s .args .times)) _ _ (s .pre .0) (at-consider-tuple .consider-tuple .last .0)
     (at-consider-tuple .consider-tuple .kept .0 ∙ long (now (s .args .words)) (s .pre .0) HITS HITS-SIZE
     (omega arith)) (rw (
       lt-ltb _ _ (at-if1 .if1 .left),
-      proper-iff _ .0
-          (at-check-corners .check-corners .ensures ∙ ap cornersSays (at-enum-told .enum-told .given .1)),
+      checked-accepted _ (at-check-region .check-region .ensures)
+          (at-enum-told .enum-told .given .1),
       ne-eqb _
           _ (at-if2 .if2 .left),
       tuple-at (read _ _ _) (at-read-tuple .read-tuple .ensures) _
@@ -192,7 +191,7 @@ read-step-spec =
     tie.close
     (tie.spec
     returns
-    check-corners-requires
+    check-region-requires
     enum-told
     returns-2
     returns-3
