@@ -153,6 +153,7 @@ struct Boost { // an update removes the old point and inserts the new one
             l.out[l.filled++] = v.second;
             l.out[l.filled++] = uint32_t(bg::get<0>(v.first));
             l.out[l.filled++] = uint32_t(bg::get<1>(v.first));
+            l.out[l.filled++] = v.second % 10;
         }
     }
 };
