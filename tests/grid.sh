@@ -118,7 +118,7 @@ row 'carriage return, comment, blank, small letter, sign, needless zero, empty l
 echo '# options'
 "$grid" --help >"$tmp/help" 2>/dev/null
 row '-h prints what --help prints, and reads nothing' 0 "$tmp/help" '' from /dev/full "$grid" -h
-asks() { "$grid" --help | grep -c -e 'R,lane,carrier,x,y' -e '13  unreadable line' -e 'Exit status: 0' | grep -qx 3; }
+asks() { "$grid" --help | grep -c -e 'R,lane,carrier,x,y,mark' -e 'W,lane,x0,y0,x1,y1,radius' -e '13  unreadable line' -e '32  radius' -e 'Exit status: 0' | grep -qx 5; }
 row '--help has calls, numbers and status' 0 '' '' asks
 versions() { "$grid" --version | grep -c -e 'commit ' -e "^kit $(sed -n 's/^Toolchain: `\([^`]*\)`.*/\1/p' "$top/docs/DECISIONS.md")\$" | grep -qx 2; }
 row '--version has the commit and the kit' 0 '' '' versions
