@@ -3,14 +3,14 @@ use mathlib.Core.Path.{◌≡◌, refl, sym, fun_ext}
 use mathlib.Core.Logic.{◌≢◌}
 use mathlib.Core.Bool.{Bool, true, false, not}
 use mathlib.Core.List.{List}
-use Prim.Native.Nat.{ℕ, ◌<◌, ◌≤◌}
+use Prim.Native.Nat.{ℕ, ◌<◌}
 use lib.Dec.{ltb, leb}
 use lib.ListN.{length, get_or, set}
 use lib.Seq.{get_or-set_same, get_or-set_other}
 use borrow.Author.Tests.{eq-eqb, ne_eqb, lt-ltb, le-ltb, le-leb, lt-leb, ltb-true, ltb-false, leb-true, leb-false}
 use native.Mathlib.Decide.{ℕ_discrete}
 use native.Mathlib.Omega.{arith}
-use Rattle.base.specs.Table.{at, upd}
+use Rattle.base.specs.Table.{upd}
 
 -- two numbers are equal or not, with the equation in each case
 pub at_or {ℓ} : {C : Type ℓ} (j i : ℕ) → (j ≡ i → C) → (j ≢ i → C) → C

@@ -3,7 +3,7 @@ use mathlib.Core.Path.{◌≡◌, sym, ap}
 use mathlib.Core.Option.{none, some}
 use Prim.Native.Nat.{ℕ}
 use Rattle.base.specs.Outcome.{Outcome, corrupt, blocked, done}
-use Rattle.base.specs.Step.{Said, said, Step, step_of, turn_tells, turn_leaves, turned, lift}
+use Rattle.base.specs.Step.{said, Step, step_of, turn_tells, turn_leaves, turned, lift}
 
 module _ {S A B : Type 0} (g : A → B) (t : B) (o : Outcome (Step S A)) (t' : B) where
   pub halts : o ≡ corrupt → t' ≡ t → turned t (lift g o) ≡ (said 12 none, t')

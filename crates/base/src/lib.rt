@@ -1,5 +1,6 @@
 // The words that every crate shares: how many of each thing there are, and the answers of operations that hand back no value.
 // Their numbers in document 01 are in specs/Answer.antt, how an operation ends in specs/Outcome.antt.
+#![tactic(auto)]
 
 // How many cells, buckets and entries of the object index there are, and slots in a bucket.
 pub const CELL_COUNT: u32 = 256;
@@ -74,14 +75,14 @@ pub const TAG_OVER: u32 = 31;
 pub const RADIUS_OVER: u32 = 32;
 
 // A change of the tables: refused as corrupt, or done.
-#[derive(Drop)]
+#[derive(Clone, Copy)]
 pub enum Change {
     Corrupt,
     Done,
 }
 
 // A change that may also have to wait.
-#[derive(Drop)]
+#[derive(Clone, Copy)]
 pub enum Attempt {
     Corrupt,
     Blocked,

@@ -10,7 +10,6 @@ use lib.ListN.{set}
 use Rattle.base.specs.Outcome.{Told, says, corrupt, done, need, await, pick, and_then, ended, nothing, one}
 use Rattle.base.specs.Table.{at}
 use Rattle.layout.specs.Place.{place_list}
-use Rattle.layout.specs.declared.place.Place.{Place}
 use Rattle.pool.specs.Pool.{take_top, give}
 use Rattle.slots.specs.Tuple.{Tuples, overwrite}
 use Rattle.tables.specs.Tables.{Tables, with_first, with_count, with_pool, with_tuples}

@@ -1,5 +1,7 @@
 // Cells: the chain of buckets of each cell, and what the stages of an update do to it.
 // On the words that hold all tables; their number is the caller's to check.
+#![tactic(auto)]
+
 ghost use Rattle.std.specs.Prelude.{◌≡◌, ◌<◌, List, ℤ, length};
 ghost use Rattle.base.specs.Outcome.{tells, one};
 ghost use Rattle.tables.specs.Tables.{with_pool, with_tuples};
@@ -9,7 +11,7 @@ ghost use Rattle.cells.specs.On.{first_on, last_on, give_back_on, linked, push_o
 ghost use Rattle.base.specs.Promise.{AttemptsIn, Changes, ChangesIn};
 ghost use Rattle.tables.specs.Promise.{OnGrid, OnWords};
 ghost use Rattle.words.specs.Map.{TIMES, WORDS};
-ghost use Rattle.base.specs.Lent.{new, old};
+ghost use Rattle.base.specs.Lent.{lent};
 
 use base::{Attempt, BUCKET_COUNT, BUCKET_SLOTS, CELL_COUNT, Change, NO_BUCKET, QUERY_COUNT};
 use layout::place::Place;
@@ -18,28 +20,28 @@ use slots::tuple::{copy_tuple, overwrite_tuple};
 use words::{COUNT, FIRST, INDEX, NEXT, POOL, READERS, TUPLES, WORDS};
 
 // A cell's first bucket.
-#[derive(Drop)]
+#[derive(Clone, Copy)]
 pub enum Bucket {
     Corrupt,
     At(u32),
 }
 
 // The last tuple of a cell's first bucket: where it is, and whose.
-#[derive(Drop)]
+#[derive(Clone, Copy)]
 pub struct Last {
     pub bucket: u32,
     pub slot: u32,
     pub oid: u32,
 }
 
-#[derive(Drop)]
+#[derive(Clone, Copy)]
 pub enum LastTuple {
     Corrupt,
     At(Last),
 }
 
 // What lowering a count did: the bucket stays, or it is unlinked.
-#[derive(Drop)]
+#[derive(Clone, Copy)]
 pub enum Lowered {
     Corrupt,
     Kept,
@@ -47,7 +49,7 @@ pub enum Lowered {
 }
 
 // Where a tuple was written.
-#[derive(Drop)]
+#[derive(Clone, Copy)]
 pub enum Written {
     Corrupt,
     At(Place),
@@ -56,7 +58,7 @@ pub enum Written {
 // The first bucket of a cell. Corrupt if the cell is out of range, or has none, or one out of range.
 fn first_bucket(words: &[u32], cell: u32) -> Bucket
     requires { length words.now ≡ WORDS }
-    ensures { (ts : List ℤ) → tells one (first_on (grid (old words) ts) cell) ≡ bucket_says result }
+    ensures { (ts : List ℤ) → tells one (first_on (grid words.now ts) cell) ≡ bucket_says result }
 {
     if cell >= CELL_COUNT {
         return Bucket::Corrupt;
@@ -70,7 +72,7 @@ fn first_bucket(words: &[u32], cell: u32) -> Bucket
 
 pub fn last_tuple(words: &[u32], cell: u32) -> LastTuple
     requires { length words.now ≡ WORDS }
-    ensures { (ts : List ℤ) → tells last_values (last_on (grid (old words) ts) cell) ≡ last_tuple_says result }
+    ensures { (ts : List ℤ) → tells last_values (last_on (grid words.now ts) cell) ≡ last_tuple_says result }
 {
     let found = first_bucket(words, cell);
     let Bucket::At(bucket) = found else {
@@ -90,7 +92,7 @@ pub fn last_tuple(words: &[u32], cell: u32) -> LastTuple
 
 pub fn lower_count(words: &mut [u32], cell: u32) -> Lowered
     requires { length words.old ≡ WORDS }
-    ensures { OnWords words (Lowers cell result) }
+    ensures { OnWords (lent words) (Lowers cell result) }
 {
     let found = first_bucket(words, cell);
     let Bucket::At(bucket) = found else {
@@ -120,7 +122,7 @@ pub fn lower_count(words: &mut [u32], cell: u32) -> Lowered
 // Returns an unlinked bucket to the pool, once it has no readers.
 pub fn return_bucket(words: &mut [u32], bucket: u32) -> Attempt
     requires { length words.old ≡ WORDS }
-    ensures { OnWords words (AttemptsIn with_pool (λ t. give_back_on t bucket) result) }
+    ensures { OnWords (lent words) (AttemptsIn with_pool (λ t. give_back_on t bucket) result) }
 {
     if bucket >= BUCKET_COUNT {
         return Attempt::Corrupt;
@@ -142,7 +144,7 @@ pub fn return_bucket(words: &mut [u32], bucket: u32) -> Attempt
 // Puts an empty bucket first in a cell.
 fn link_bucket(words: &mut [u32], cell: u32, bucket: u32)
     requires { (length words.old ≡ WORDS) × (cell < 256) × (bucket < 512) }
-    ensures { OnWords words (λ t t'. t' ≡ linked t cell bucket) }
+    ensures { OnWords (lent words) (λ t t'. t' ≡ linked t cell bucket) }
 {
     let at = FIRST + cell as usize;
     let b = bucket as usize;
@@ -155,7 +157,7 @@ fn link_bucket(words: &mut [u32], cell: u32, bucket: u32)
 // Puts a bucket from the pool first in a cell.
 pub fn push_bucket(words: &mut [u32], cell: u32) -> Change
     requires { length words.old ≡ WORDS }
-    ensures { OnWords words (ChangesIn with_chains (λ t. push_on t cell) result) }
+    ensures { OnWords (lent words) (ChangesIn with_chains (λ t. push_on t cell) result) }
 {
     if cell >= CELL_COUNT {
         return Change::Corrupt;
@@ -171,7 +173,7 @@ pub fn push_bucket(words: &mut [u32], cell: u32) -> Change
 // Makes room for a tuple in a cell's first bucket.
 pub fn make_room(words: &mut [u32], cell: u32) -> Change
     requires { length words.old ≡ WORDS }
-    ensures { OnWords words (ChangesIn with_chains (λ t. make_room_on t cell) result) }
+    ensures { OnWords (lent words) (ChangesIn with_chains (λ t. make_room_on t cell) result) }
 {
     if cell >= CELL_COUNT {
         return Change::Corrupt;
@@ -203,7 +205,7 @@ pub fn copy_slot(
     slot2: u32,
 ) -> Change
     requires { (length words.old ≡ WORDS) × (length times.old ≡ TIMES) }
-    ensures { OnGrid words times (ChangesIn with_tuples (λ t. copy_on t bucket slot bucket2 slot2) result) }
+    ensures { OnGrid (lent words) (lent times) (ChangesIn with_tuples (λ t. copy_on t bucket slot bucket2 slot2) result) }
 {
     copy_tuple(
         &mut words[TUPLES..INDEX],
@@ -228,7 +230,7 @@ pub fn overwrite_slot(
     time: u32,
 ) -> Change
     requires { (length words.old ≡ WORDS) × (length times.old ≡ TIMES) }
-    ensures { OnGrid words times (ChangesIn with_tuples (λ t. overwrite_on t bucket slot oid x y tag time) result) }
+    ensures { OnGrid (lent words) (lent times) (ChangesIn with_tuples (λ t. overwrite_on t bucket slot oid x y tag time) result) }
 {
     overwrite_tuple(
         &mut words[TUPLES..INDEX],
@@ -255,7 +257,7 @@ pub fn write_tuple(
     time: u32,
 ) -> Written
     requires { (length words.old ≡ WORDS) × (length times.old ≡ TIMES) }
-    ensures { OnGrid words times (Writes cell oid x y tag time result) }
+    ensures { OnGrid (lent words) (lent times) (Writes cell oid x y tag time result) }
 {
     let found = first_bucket(words, cell);
     let Bucket::At(bucket) = found else {
@@ -275,7 +277,7 @@ pub fn write_tuple(
 // A tuple more in a bucket, on the counts alone.
 pub fn raise_count(count: &mut [u32], bucket: u32) -> Change
     requires { length count.old ≡ 512 }
-    ensures { Changes (old count) (λ l. raise l bucket) result (new count) }
+    ensures { Changes count.old (λ l. raise l bucket) result count.new }
 {
     if bucket >= BUCKET_COUNT {
         return Change::Corrupt;

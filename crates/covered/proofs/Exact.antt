@@ -1,22 +1,21 @@
 -- `whole` holds of a cell exactly where every point of it satisfies the question, for all three kinds.
 -- A point of a cell lies no farther outside the rectangle than one of the cell's edges, in x and in y separately.
 -- So the corner that lies farthest decides for touching, and the two edges of each coordinate for within and centre.
-use mathlib.Core.Path.{◌≡◌, refl, sym, ◌∙◌}
-use mathlib.Core.Bool.{Bool, true, false, ◌&&◌, So, and-eq-true_iff}
+use mathlib.Core.Path.{◌≡◌, sym, ◌∙◌}
+use mathlib.Core.Bool.{true, false, ◌&&◌, and-eq-true_iff}
 use mathlib.Core.Logic.{◌↔◌}
-use Prim.Native.Nat.{ℕ, ◌+◌, ◌-◌, ◌*◌, ◌/◌, ◌%◌, ◌≤◌, ◌<◌, min, max}
+use Prim.Native.Nat.{ℕ, ◌+◌, ◌-◌, ◌≤◌, ◌<◌}
 use native.Mathlib.Omega.{arith}
 use lib.Dec.{ltb, leb}
 use borrow.Author.Tests.{le-leb, leb-true, leb-false, lt-ltb, ltb-true}
 use Rattle.base.proofs.Table.{by_test}
-use Rattle.layout.specs.Place.{on_grid, cell_of}
-use Rattle.layout.specs.Question as area
+use Rattle.layout.specs.Place.{cell_of}
 use Rattle.layout.specs.declared.question.Question.{Question as Rectangle}
 use Rattle.layout.proofs.Bools.{leb_iff}
 use Rattle.layout.specs.Question.{Proper}
 use Rattle.layout.proofs.Corners.{proper_facts}
 use Rattle.layout.proofs.Places.{on_grid_to, on_grid_from}
-use Rattle.regions.specs.Region.{proper, square, apart, nearest, touching, within, satisfies, inside, touching_zero, centre}
+use Rattle.regions.specs.Region.{proper, apart, nearest, touching, within, satisfies, inside, touching_zero, centre}
 use Rattle.regions.specs.declared.region.Kind.{Kind}
 use Rattle.regions.specs.declared.region.Kind.TheVariants.{Touching, Within, Centre}
 use Rattle.regions.specs.declared.region.Region.{Region}

@@ -8,14 +8,14 @@ use layout::question::NextCell;
 use regions::region::Region;
 use regions::scan::{first_cell, next_cell};
 
-#[derive(Drop)]
+#[derive(Clone, Copy)]
 pub struct Visit {
     pub cell: u32,
     pub whole: bool,
 }
 
 // What comes after a cell of the scan: another one, or the end. Corrupt where the cell is none of the scan's.
-#[derive(Drop)]
+#[derive(Clone, Copy)]
 pub enum NextVisit {
     Corrupt,
     End,

@@ -1,6 +1,5 @@
 // Search, entering an object, and counting.
 ghost use Rattle.std.specs.Prelude.{◌≡◌, ◌<◌, length};
-ghost use Rattle.base.specs.Lent.{old, new};
 ghost use Rattle.base.specs.Promise.{Changes};
 ghost use Rattle.words.specs.Part.{part};
 ghost use Rattle.index.specs.Search.{after, search, search_tells, search_says, known};
@@ -13,7 +12,7 @@ use layout::place::NOWHERE;
 use words::{INDEX_CURRENT, INDEX_LOCKS, INDEX_PREVIOUS};
 
 // Where a search ended: at the object's entry, or at an empty one. A search that wrapped ends at its start, whose entry is not empty.
-#[derive(Drop)]
+#[derive(Clone, Copy)]
 pub enum Search {
     Found(usize),
     Empty(usize),
@@ -32,7 +31,7 @@ fn next_entry(i: usize) -> usize
 // Goes from entry to entry until the object or an empty one.
 pub fn find_object(oids: &[u32], oid: u32) -> Search
     requires { length oids.now ≡ 512 }
-    ensures { search_says result ≡ search_tells (old oids) oid }
+    ensures { search_says result ≡ search_tells oids.now oid }
 {
     let s = start_of(oid) as usize;
     let mut i = s;
@@ -54,7 +53,7 @@ pub fn find_object(oids: &[u32], oid: u32) -> Search
 // Writes a new entry: the object without places, its lock free.
 fn put_new(index: &mut [u32], at: usize, oid: u32)
     requires { (length index.old ≡ INDEX-SIZE) × (at < 512) }
-    ensures { put_entry (index_at (old index)) at oid new_entry ≡ index_at (new index) }
+    ensures { put_entry (index_at index.old) at oid new_entry ≡ index_at index.new }
 {
     index[at] = oid;
     index[INDEX_LOCKS + at] = 0;
@@ -65,7 +64,7 @@ fn put_new(index: &mut [u32], at: usize, oid: u32)
 // Enters an object where the search for it ended, without places and with its lock free; leaves a known one as it is.
 pub fn enter_at(index: &mut [u32], s: Search, oid: u32) -> Change
     requires { (length index.old ≡ INDEX-SIZE) × (s ≡ search (part 0 512 index.old) oid) }
-    ensures { Changes (index_at (old index)) (λ d. enter d oid) result (index_at (new index)) }
+    ensures { Changes (index_at index.old) (λ d. enter d oid) result (index_at index.new) }
 {
     let Search::Empty(i) = s else {
         return Change::Done;
@@ -80,7 +79,7 @@ pub fn enter_at(index: &mut [u32], s: Search, oid: u32) -> Change
 // The same, after a search.
 pub fn enter_object(index: &mut [u32], oid: u32) -> Change
     requires { length index.old ≡ INDEX-SIZE }
-    ensures { Changes (index_at (old index)) (λ d. enter d oid) result (index_at (new index)) }
+    ensures { Changes (index_at index.old) (λ d. enter d oid) result (index_at index.new) }
 {
     let s = find_object(&index[0..INDEX_LOCKS], oid);
     enter_at(index, s, oid)
@@ -88,7 +87,7 @@ pub fn enter_object(index: &mut [u32], oid: u32) -> Change
 
 // How many objects are known.
 pub fn count_known(oids: &[u32]) -> usize
-    ensures { result ≡ known (old oids) }
+    ensures { result ≡ known oids.now }
 {
     let mut n: usize = 0;
     let mut i = 0;

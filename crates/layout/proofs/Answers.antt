@@ -1,12 +1,8 @@
 -- Who holds the answer of encode_place or decode_place knows how `encode` or `decode` ended: each lemma takes the answer by its variant and asks who was told the number.
 use mathlib.Core.Path.{◌≡◌, refl, ap, ◌∙◌}
-use mathlib.Core.List.{[], ◌∷◌}
+use mathlib.Core.List.{[]}
 use mathlib.Core.Option.{Option, none, some}
 use Prim.Native.Nat.{ℕ}
-use native.Mathlib.Omega.{arith}
-use mathlib.Core.Logic.{inl, inr}
-use types.Run.{OneOf}
-use denote.Enum.Declared.{tag_of}
 use Rattle.base.proofs.Table.{clash}
 use Rattle.base.specs.Outcome.{Outcome, corrupt, done, tells, says, one}
 use Rattle.base.proofs.Outcome.{told_corrupt, told_done}
@@ -20,7 +16,6 @@ use Rattle.layout.specs.declared.place.PlaceNumber.{PlaceNumber}
 use Rattle.layout.specs.declared.place.PlaceNumber.TheVariants.{Corrupt, Number}
 use Rattle.layout.specs.declared.place.PlaceRead.{PlaceRead}
 use Rattle.layout.specs.declared.place.PlaceRead.TheVariants.{Corrupt as ReadCorrupt, Nowhere, At}
-use Rattle.layout.specs.contracts.place.PlaceRead.{the_type}
 
 module _ (o : Outcome ℕ) (r : PlaceNumber) (e : tells one o ≡ place_number_says r) where
   -- encode_place answered corrupt: `encode` ended so
@@ -54,9 +49,8 @@ module _ (o : Outcome (Option Place)) where
   read_corrupt r e q = told_corrupt place_values o (e ∙ ap place_read_says q)
 
   -- decode_place answered no place or a place: `decode` came to something with the answer's values
-  pub read_done : (r : PlaceRead) → tells place_values o ≡ place_read_says r → OneOf (1 ∷ 2 ∷ []) (tag_of the_type r) → (p : Option Place) × (o ≡ done p) × (says 0 (place_values p) ≡ place_read_says r)
-  read_done ReadCorrupt e (inl h) = absurd (omega (arith, h))
-  read_done ReadCorrupt e (inr h) = absurd (omega (arith, h))
+  pub read_done : (r : PlaceRead) → tells place_values o ≡ place_read_says r → (r ≡ ReadCorrupt → ⊥) → (p : Option Place) × (o ≡ done p) × (says 0 (place_values p) ≡ place_read_says r)
+  read_done ReadCorrupt e h = absurd (h refl)
   read_done Nowhere e h = let d = told_done place_values o e in (d.0, d.1, ap (says 0) d.2)
   read_done (At p) e h = let d = told_done place_values o e in (d.0, d.1, ap (says 0) d.2)
 

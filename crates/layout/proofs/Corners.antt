@@ -2,12 +2,10 @@
 -- The answer is 0 where both tests hold, 5 or 6 elsewhere; the tests are then taken apart into the orders that they test.
 use mathlib.Core.Path.{◌≡◌, refl, sym, ap, ◌∙◌}
 use mathlib.Core.Bool.{Bool, true, false, ◌&&◌, So, false≢true, and-eq-true_iff}
-use mathlib.Core.List.{[], ◌∷◌}
-use mathlib.Core.Logic.{◌↔◌, inl, inr}
+use mathlib.Core.List.{[]}
+use mathlib.Core.Logic.{◌↔◌}
 use Prim.Native.Nat.{◌≤◌}
 use native.Mathlib.Omega.{arith}
-use types.Run.{OneOf}
-use denote.Enum.Declared.{tag_of}
 use Rattle.base.specs.Outcome.{Told, says, pick}
 use Rattle.layout.specs.Place.{on_grid}
 use Rattle.layout.specs.Question.{corners, corners_on, corners_says, ordered, Proper}
@@ -15,7 +13,6 @@ use Rattle.layout.specs.declared.question.Corners.{Corners}
 use Rattle.layout.specs.declared.question.Corners.TheVariants.{Accepted, OffGrid, Crossed}
 use Rattle.layout.specs.declared.question.Question.{Question}
 use Rattle.layout.proofs.Bools.{leb_iff, not_so}
-use Rattle.layout.specs.contracts.question.Corners.{the_type}
 
 -- equal answers have equal numbers
 same_number : {s t : Told} → s ≡ t → s.number ≡ t.number
@@ -48,15 +45,14 @@ unfolding corners_on ordered on_grid
 facts_proper q h = simp (proper_iff, and-eq-true_iff, leb_iff) (omega arith)
 
 -- an answer of another variant than the first has another number than 0
-not_accepted : (r : Corners) → OneOf (1 ∷ 2 ∷ []) (tag_of the_type r) → corners_says r ≡ says 0 [] → ⊥
-not_accepted Accepted (inl h) e = omega (arith, h)
-not_accepted Accepted (inr h) e = omega (arith, h)
-not_accepted OffGrid o e = omega (arith, same_number e)
-not_accepted Crossed o e = omega (arith, same_number e)
+not_accepted : (r : Corners) → (r ≡ Accepted → ⊥) → corners_says r ≡ says 0 [] → ⊥
+not_accepted Accepted other e = other refl
+not_accepted OffGrid other e = omega (arith, same_number e)
+not_accepted Crossed other e = omega (arith, same_number e)
 
 -- where the answer is such a one, the tests fail
-pub refused_tests : (q : Question) (r : Corners) → corners q ≡ corners_says r → OneOf (1 ∷ 2 ∷ []) (tag_of the_type r) → (corners_on q && ordered q) ≡ false
-refused_tests q r e o = not_so (corners_on q && ordered q) (λ h. not_accepted r o (sym e ∙ (proper_iff q).1 h))
+pub refused_tests : (q : Question) (r : Corners) → corners q ≡ corners_says r → (r ≡ Accepted → ⊥) → (corners_on q && ordered q) ≡ false
+refused_tests q r e other = not_so (corners_on q && ordered q) (λ h. not_accepted r other (sym e ∙ (proper_iff q).1 h))
 
 -- the number tells which test failed
 told_accepted : (a b : Bool) → pick a (pick b (says 0 []) (says 6 [])) (says 5 []) ≡ says 0 [] → (a ≡ true) × (b ≡ true)

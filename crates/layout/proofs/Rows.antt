@@ -32,6 +32,7 @@ pub record Spot (c n m a : ℕ) : Type 0 where
 -- what stands in the rows stands in some row and column
 pub rows_spot : (c n m a : ℕ) → In a (rows_from c n m) → Spot c n m a
 unfolding rows_from
+rows_spot c n zero a i = elim i [ ]
 rows_spot c n (suc m) a i = ⊎_elim
     (λ (k : In a (numbers_from c n)).
     let b = in_numbers c n a k in

@@ -7,7 +7,7 @@ use crate::place::{cell_of, on_grid};
 use base::CELL_COUNT;
 
 // A rectangle by its lower and its upper corner.
-#[derive(Drop)]
+#[derive(Clone, Copy)]
 pub struct Question {
     pub x0: u32,
     pub y0: u32,
@@ -15,7 +15,7 @@ pub struct Question {
     pub y1: u32,
 }
 
-#[derive(Drop)]
+#[derive(Clone, Copy)]
 pub enum Corners {
     Accepted,
     OffGrid,
@@ -23,13 +23,13 @@ pub enum Corners {
 }
 
 // A cell of the scan.
-#[derive(Drop)]
+#[derive(Clone, Copy)]
 pub struct Visit {
     pub cell: u32,
 }
 
 // What comes after a cell of the scan: another one, or the end. Corrupt where the cell is none of the scan's.
-#[derive(Drop)]
+#[derive(Clone, Copy)]
 pub enum NextCell {
     Corrupt,
     End,

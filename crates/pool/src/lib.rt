@@ -1,7 +1,8 @@
 // The bucket pool (document 01: the bucket store): the bucket numbers that stand in no chain.
 // The lent table has 513 entries: a stack of bucket numbers, and its height in entry 512.
+#![tactic(auto)]
+
 ghost use Rattle.std.specs.Prelude.{◌≡◌};
-ghost use Rattle.base.specs.Lent.{old, new};
 ghost use Rattle.base.specs.Outcome.{ended, one, nothing};
 ghost use Rattle.base.specs.Answer.{change_says};
 ghost use Rattle.pool.specs.Pool.{take_top, give, refill, Took, taken_says};
@@ -14,7 +15,7 @@ const HEIGHT: usize = 512;
 const ENTRIES: usize = 513;
 
 // What taking a bucket answers: its number, or corrupt where the table is damaged or the pool is dry.
-#[derive(Drop)]
+#[derive(Clone, Copy)]
 pub enum Taken {
     Corrupt,
     Bucket(u32),
@@ -22,7 +23,7 @@ pub enum Taken {
 
 // Hands out the bucket on top of the stack.
 pub fn take_bucket(pool: &mut [u32]) -> Taken
-    ensures { ended (λ (t : Took). one t.bucket) (λ (t : Took). t.pool) (old pool) (take_top (old pool)) ≡ (taken_says result, new pool) }
+    ensures { ended (λ (t : Took). one t.bucket) (λ (t : Took). t.pool) pool.old (take_top pool.old) ≡ (taken_says result, pool.new) }
 {
     if pool.len() != ENTRIES {
         return Taken::Corrupt;
@@ -44,8 +45,9 @@ pub fn take_bucket(pool: &mut [u32]) -> Taken
 }
 
 // Puts a bucket back on top.
+#[tactic(auto, unfolding(crate::specs::Pool::give, crate::specs::Pool::height, crate::specs::Pool::with_height, base::specs::Outcome::need, base::specs::Outcome::tells, base::specs::Outcome::leaves))]
 pub fn give_bucket(pool: &mut [u32], bucket: u32) -> Change
-    ensures { ended nothing (λ p. p) (old pool) (give (old pool) bucket) ≡ (change_says result, new pool) }
+    ensures { ended nothing (λ p. p) pool.old (give pool.old bucket) ≡ (change_says result, pool.new) }
 {
     if pool.len() != ENTRIES {
         return Change::Corrupt;
@@ -65,7 +67,7 @@ pub fn give_bucket(pool: &mut [u32], bucket: u32) -> Change
 
 // Makes the pool of all 512 buckets.
 pub fn refill_pool(pool: &mut [u32]) -> Change
-    ensures { ended nothing (λ p. p) (old pool) (refill (old pool)) ≡ (change_says result, new pool) }
+    ensures { ended nothing (λ p. p) pool.old (refill pool.old) ≡ (change_says result, pool.new) }
 {
     if pool.len() != ENTRIES {
         return Change::Corrupt;

@@ -1,7 +1,9 @@
 // Readers: how a query stands in a bucket of a chain, and goes from one to the next.
 // On the words that hold all tables; their number is the caller's to check.
+#![tactic(auto)]
+
 ghost use Rattle.std.specs.Prelude.{◌≡◌, length};
-ghost use Rattle.base.specs.Lent.{old, new};
+ghost use Rattle.base.specs.Lent.{lent};
 ghost use Rattle.base.specs.Outcome.{ended, nothing};
 ghost use Rattle.base.specs.Answer.{change_says};
 ghost use Rattle.words.specs.Words.{count_in, readers_in, put_readers};
@@ -13,13 +15,13 @@ use base::{BUCKET_COUNT, BUCKET_SLOTS, Change, QUERY_COUNT};
 use words::{COUNT, READERS};
 
 // The bucket in which a query stands, and how many of its slots are left to read.
-#[derive(Drop)]
+#[derive(Clone, Copy)]
 pub struct Standing {
     pub bucket: u32,
     pub left: u32,
 }
 
-#[derive(Drop)]
+#[derive(Clone, Copy)]
 pub enum Stood {
     Corrupt,
     In(Standing),
@@ -28,7 +30,7 @@ pub enum Stood {
 // A reader more at a bucket, and its count noted.
 pub fn add_reader(words: &mut [u32], bucket: u32) -> Stood
     requires { length words.old ≡ WORDS }
-    ensures { Stands words (add_reader (count_in (old words)) (readers_in (old words)) bucket) result }
+    ensures { Stands (lent words) (add_reader (count_in words.old) (readers_in words.old) bucket) result }
 {
     if bucket >= BUCKET_COUNT {
         return Stood::Corrupt;
@@ -49,7 +51,7 @@ pub fn add_reader(words: &mut [u32], bucket: u32) -> Stood
 // A reader less.
 pub fn take_reader(words: &mut [u32], bucket: u32) -> Change
     requires { length words.old ≡ WORDS }
-    ensures { ended nothing (put_readers (old words)) (old words) (take_reader (readers_in (old words)) bucket) ≡ (change_says result, new words) }
+    ensures { ended nothing (put_readers words.old) words.old (take_reader (readers_in words.old) bucket) ≡ (change_says result, words.new) }
 {
     if bucket >= BUCKET_COUNT {
         return Change::Corrupt;
@@ -69,7 +71,7 @@ pub fn take_reader(words: &mut [u32], bucket: u32) -> Change
 // Leaves a bucket for the next one of the chain. A chain may be damaged, and the next bucket this one itself.
 pub fn leave_for(words: &mut [u32], bucket: u32, below: u32) -> Stood
     requires { length words.old ≡ WORDS }
-    ensures { Stands words (leave_for (count_in (old words)) (readers_in (old words)) bucket below) result }
+    ensures { Stands (lent words) (leave_for (count_in words.old) (readers_in words.old) bucket below) result }
 {
     if below >= BUCKET_COUNT {
         return Stood::Corrupt;

@@ -2,11 +2,9 @@
 -- By cases on the three tests: different outcomes have different numbers.
 use mathlib.Core.Path.{◌≡◌, refl, sym, ap, ◌∙◌}
 use mathlib.Core.Bool.{Bool, true, false, ◌&&◌, So, false≢true, and-eq-true_iff}
-use mathlib.Core.List.{[], ◌∷◌}
-use mathlib.Core.Logic.{◌↔◌, inl, inr}
+use mathlib.Core.List.{[]}
+use mathlib.Core.Logic.{◌↔◌}
 use native.Mathlib.Omega.{arith}
-use types.Run.{OneOf}
-use denote.Enum.Declared.{tag_of}
 use Rattle.base.specs.Outcome.{Told, says, pick}
 use Rattle.layout.specs.Question.{corners_on, ordered, Proper}
 use Rattle.layout.proofs.Bools.{not_so}
@@ -15,7 +13,6 @@ use Rattle.regions.specs.Region.{right_radius, proper, checks, checked_says}
 use Rattle.regions.specs.declared.region.Region.{Region}
 use Rattle.regions.specs.declared.region.Checked.{Checked}
 use Rattle.regions.specs.declared.region.Checked.TheVariants.{Accepted, OffGrid, Crossed, Wide}
-use Rattle.regions.specs.contracts.region.Checked.{the_type}
 
 -- equal answers have equal numbers
 same_number : {s t : Told} → s ≡ t → s.number ≡ t.number
@@ -133,15 +130,13 @@ module _ (g : Region) where
         told_wide (corners_on g.area) (ordered g.area) (right_radius g) (e ∙ ap checked_says p)
 
 -- an answer of another variant than the first has another number than 0
-not_accepted : (r : Checked) → OneOf (1 ∷ 2 ∷ 3 ∷ []) (tag_of the_type r) → checked_says r ≡ says 0 [] → ⊥
-not_accepted Accepted (inl h) e = omega (arith, h)
-not_accepted Accepted (inr (inl h)) e = omega (arith, h)
-not_accepted Accepted (inr (inr h)) e = omega (arith, h)
+not_accepted : (r : Checked) → (r ≡ Accepted → ⊥) → checked_says r ≡ says 0 [] → ⊥
+not_accepted Accepted o e = o refl
 not_accepted OffGrid o e = omega (arith, same_number e)
 not_accepted Crossed o e = omega (arith, same_number e)
 not_accepted Wide o e = omega (arith, same_number e)
 
 -- where the answer is such a one, the question is out of range
 pub checked_refused : (g : Region) (r : Checked) → checks g ≡ checked_says r
-    → OneOf (1 ∷ 2 ∷ 3 ∷ []) (tag_of the_type r) → proper g ≡ false
+    → (r ≡ Accepted → ⊥) → proper g ≡ false
 checked_refused g r e o = not_so (proper g) (λ h. not_accepted r o (sym e ∙ (checks_proper g).1 h))

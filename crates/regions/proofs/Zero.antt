@@ -3,7 +3,7 @@
 -- With radius 0 a coordinate may lie 0 outside its interval, that is, in it; and the grown rectangle is the rectangle.
 use mathlib.Core.Path.{◌≡◌, refl, sym, ap}
 use mathlib.Core.Bool.{Bool, true, false, ◌&&◌, So, and-eq-true_iff}
-use Prim.Native.Nat.{ℕ, ◌+◌, ◌-◌, ◌*◌, ◌≤◌, min, max}
+use Prim.Native.Nat.{ℕ, ◌+◌, ◌-◌, ◌≤◌, min}
 use native.Mathlib.Omega.{arith}
 use lib.Dec.{leb}
 use borrow.Author.Tests.{le-leb, leb-true}
@@ -12,7 +12,7 @@ use Rattle.layout.specs.declared.question.Question.{Question as Rectangle}
 use Rattle.layout.proofs.Bools.{leb_iff}
 use Rattle.layout.specs.Question.{Proper}
 use Rattle.layout.proofs.Corners.{proper_iff, proper_facts}
-use Rattle.regions.specs.Region.{radius_fits, proper, checks, square, apart, nearest, touching, within, satisfies, inside, grown, walked_by_kind, walked, walk, cells_touched, first_visit, visited, next, touching_zero, centre}
+use Rattle.regions.specs.Region.{radius_fits, proper, checks, square, apart, nearest, touching, within, satisfies, inside, walked_by_kind, walked, walk, cells_touched, first_visit, visited, next, touching_zero, centre}
 use Rattle.regions.proofs.Points.{outside_by, outside_most}
 use Rattle.regions.proofs.Squares.{both_less}
 

@@ -1,12 +1,10 @@
 -- Small cases of the three questions, computed: a table of what the definitions give and what document 02 says,
 -- and one proof of all rows.
-use Rattle.std.specs.Prelude.{◌≡◌, refl, Bool, List, [], ◌∷◌, ◌++◌, ℕ}
-use Rattle.std.proofs.Math.Option.{none, some}
+use Rattle.std.specs.Prelude.{◌≡◌, refl, List, [], ◌∷◌, ◌++◌, ℕ}
 use Rattle.base.specs.Lists.{numbers_from}
 use Rattle.base.specs.Outcome.{pick, one, need, tells}
 use Rattle.layout.specs.Place.{on_grid, cell_of}
 use Rattle.layout.specs.Question as area
-use Rattle.layout.specs.declared.question.Question.{Question as Rectangle}
 use Rattle.regions.specs.Region.{radius_fits, proper, checks, touching, within, satisfies, inside, walked_by_kind, walk, cells_touched, first_visit, visited, next}
 use Rattle.regions.specs.declared.region.Kind.{Kind}
 use Rattle.regions.specs.declared.region.Kind.TheVariants.{Touching, Within, Centre}

@@ -6,21 +6,21 @@ use layout::question::{Corners, Question as Rectangle, check_corners};
 
 // Touching: the point lies at most the radius from the rectangle. Within: at least the radius inside each of its sides.
 // Centre: in the rectangle.
-#[derive(Drop)]
+#[derive(Clone, Copy)]
 pub enum Kind {
     Touching,
     Within,
     Centre,
 }
 
-#[derive(Drop)]
+#[derive(Clone, Copy)]
 pub struct Region {
     pub kind: Kind,
     pub area: Rectangle,
     pub radius: u32,
 }
 
-#[derive(Drop)]
+#[derive(Clone, Copy)]
 pub enum Checked {
     Accepted,
     OffGrid,

@@ -1,6 +1,5 @@
 // Tuples: read, copied and written whole.
 ghost use Rattle.std.specs.Prelude.{◌≡◌, ◌<◌, List, ℤ, length};
-ghost use Rattle.base.specs.Lent.{old, new};
 ghost use Rattle.base.specs.Outcome.{tells};
 ghost use Rattle.base.specs.Promise.{Changes};
 ghost use Rattle.slots.specs.Tuple.{tuples_at, put_words, copy, overwrite, delete, read, seen_values, seen_by, tuple_read_says, sign, sign_values, sign_says};
@@ -12,7 +11,7 @@ use base::{BUCKET_COUNT, BUCKET_SLOTS, Change, LAST_STAMP};
 use words::{TUPLE_TAGS, TUPLE_XS, TUPLE_YS};
 
 // A tuple with its stamp taken apart. The tag is the object's load mark (document 02), as it was reported with the place.
-#[derive(Drop)]
+#[derive(Clone, Copy)]
 pub struct Seen {
     pub oid: u32,
     pub x: u32,
@@ -22,14 +21,14 @@ pub struct Seen {
     pub time: u32,
 }
 
-#[derive(Drop)]
+#[derive(Clone, Copy)]
 pub enum TupleRead {
     Corrupt,
     At(Seen),
 }
 
 // Whether a tuple is current or logically deleted.
-#[derive(Drop)]
+#[derive(Clone, Copy)]
 pub enum Sign {
     Corrupt,
     Current,
@@ -52,7 +51,7 @@ pub fn in_range(time: u32) -> bool
 // Reads the tuple at a slot. Objects, x, y and tags stand one after the other in one list, a column each.
 pub fn read_tuple(tuples: &[u32], times: &[i32], bucket: u32, slot: u32) -> TupleRead
     requires { (length tuples.now ≡ TUPLES-SIZE) × (length times.now ≡ TIMES) }
-    ensures { tells seen_values (read (tuples_at (old tuples) (old times)) bucket slot) ≡ tuple_read_says result }
+    ensures { tells seen_values (read (tuples_at tuples.now times.now) bucket slot) ≡ tuple_read_says result }
 {
     if bucket >= BUCKET_COUNT {
         return TupleRead::Corrupt;
@@ -87,7 +86,7 @@ pub fn read_tuple(tuples: &[u32], times: &[i32], bucket: u32, slot: u32) -> Tupl
 // Writes object, x, y and tag over those at an entry.
 fn put_tuple(tuples: &mut [u32], at: usize, oid: u32, x: u32, y: u32, tag: u32)
     requires { (length tuples.old ≡ TUPLES-SIZE) × (at < 2048) }
-    ensures { (ts : List ℤ) → put_words (tuples_at (old tuples) ts) at oid x y tag ≡ tuples_at (new tuples) ts }
+    ensures { (ts : List ℤ) → put_words (tuples_at tuples.old ts) at oid x y tag ≡ tuples_at tuples.new ts }
 {
     tuples[at] = oid;
     tuples[TUPLE_XS + at] = x;
@@ -105,7 +104,7 @@ pub fn copy_tuple(
     slot2: u32,
 ) -> Change
     requires { (length tuples.old ≡ TUPLES-SIZE) × (length times.old ≡ TIMES) }
-    ensures { Changes (tuples_at (old tuples) (old times)) (λ d. copy d bucket slot bucket2 slot2) result (tuples_at (new tuples) (new times)) }
+    ensures { Changes (tuples_at tuples.old times.old) (λ d. copy d bucket slot bucket2 slot2) result (tuples_at tuples.new times.new) }
 {
     if bucket >= BUCKET_COUNT {
         return Change::Corrupt;
@@ -143,7 +142,7 @@ pub fn overwrite_tuple(
     time: u32,
 ) -> Change
     requires { (length tuples.old ≡ TUPLES-SIZE) × (length times.old ≡ TIMES) }
-    ensures { Changes (tuples_at (old tuples) (old times)) (λ d. overwrite d bucket slot oid x y tag time) result (tuples_at (new tuples) (new times)) }
+    ensures { Changes (tuples_at tuples.old times.old) (λ d. overwrite d bucket slot oid x y tag time) result (tuples_at tuples.new times.new) }
 {
     if bucket >= BUCKET_COUNT {
         return Change::Corrupt;
@@ -164,7 +163,7 @@ pub fn overwrite_tuple(
 // Logically deletes a tuple: its stamp becomes the negative of the one given.
 pub fn delete_tuple(times: &mut [i32], bucket: u32, slot: u32, time: u32) -> Change
     requires { length times.old ≡ TIMES }
-    ensures { Changes (old times) (λ l. delete l bucket slot time) result (new times) }
+    ensures { Changes times.old (λ l. delete l bucket slot time) result times.new }
 {
     if bucket >= BUCKET_COUNT {
         return Change::Corrupt;
@@ -182,6 +181,7 @@ pub fn delete_tuple(times: &mut [i32], bucket: u32, slot: u32, time: u32) -> Cha
 }
 
 // Whether a query that drew the stamp since may list a tuple: it is current, or its stamp's magnitude is above.
+#[tactic(auto, unfolding(crate::specs::Tuple::seen_by))]
 pub fn is_seen(t: Seen, since: u32) -> bool
     ensures { result ≡ seen_by since t }
 {
@@ -197,7 +197,7 @@ pub fn is_seen(t: Seen, since: u32) -> bool
 // Whether the tuple at a slot is deleted, by its stamp's sign.
 pub fn read_sign(times: &[i32], bucket: u32, slot: u32) -> Sign
     requires { length times.now ≡ TIMES }
-    ensures { tells sign_values (sign (old times) bucket slot) ≡ sign_says result }
+    ensures { tells sign_values (sign times.now bucket slot) ≡ sign_says result }
 {
     if bucket >= BUCKET_COUNT {
         return Sign::Corrupt;

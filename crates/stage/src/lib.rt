@@ -1,7 +1,8 @@
 // An update in progress (document 01: a report lane): its object, the place reported with its tag, and its stage.
 // And the ends that several stages share.
+#![tactic(auto)]
+
 ghost use Rattle.std.specs.Prelude.{◌≡◌};
-ghost use Rattle.base.specs.Lent.{new, old};
 ghost use Rattle.stage.specs.Promise.{Turns};
 ghost use Rattle.stage.specs.Turn.{hold, turn_after, turn_attempted};
 
@@ -12,7 +13,7 @@ use locks::take_lock;
 // What an update does next, with the data of that stage (document 01: the stages of a report).
 // The place of stages 2 to 7 is the one being erased; the object with it is the one whose tuple moves there.
 // The place of stages 11 and 12 is the new one, that of stage 13 the old one.
-#[derive(Drop)]
+#[derive(Clone, Copy)]
 pub enum Stage {
     Idle,
     TakeObject,
@@ -31,7 +32,7 @@ pub enum Stage {
     ReleaseObject,
 }
 
-#[derive(Drop)]
+#[derive(Clone, Copy)]
 pub struct Updater {
     pub oid: u32,
     pub x: u32,
@@ -41,7 +42,7 @@ pub struct Updater {
 }
 
 // How one step of an update ends: refused as corrupt, blocked, on to a stage, back to the first, or finished.
-#[derive(Drop)]
+#[derive(Clone, Copy)]
 pub enum Turn {
     Corrupt,
     Blocked,
@@ -73,7 +74,7 @@ pub fn turn_attempted(done: Attempt, next: Stage) -> Turn
 
 // Takes a lock and goes on to a stage. Blocked if it is taken.
 pub fn hold_lock(locks: &mut [u32], at: usize, owner: u32, next: Stage) -> Turn
-    ensures { Turns (λ l. hold l at owner next) result (old locks) (new locks) }
+    ensures { Turns (λ l. hold l at owner next) result locks.old locks.new }
 {
     let taken = take_lock(locks, at, owner);
     turn_attempted(taken, next)

@@ -10,7 +10,7 @@ use lib.Dec.{eqb, leb}
 use lib.IntN.{ℤ}
 use lib.ListN.{length, set, get_or, drop, length-set, length-drop}
 use lib.Seq.{drop-set-lt, get_or-set_same, take_all}
-use borrow.Author.Tests.{eqb-true, eqb-false, eq-eqb, ne_eqb}
+use borrow.Author.Tests.{eqb-true, eqb-false}
 use Rattle.base.specs.Table.{at}
 use Rattle.base.proofs.Table.{by_test, clash}
 use Rattle.words.specs.Map.{CELLS, FIRST, COUNT, NEXT, READERS, TUPLES, TUPLE-XS, TUPLE-YS, TUPLE-TAGS, TUPLES-SIZE, INDEX, INDEX-LOCKS, INDEX-CURRENT, INDEX-PREVIOUS, INDEX-SIZE, HITS, HIT-XS, HIT-YS, HIT-TAGS, HITS-SIZE, CLOCK, POOL, WORDS, TIMES}
@@ -20,7 +20,7 @@ use Rattle.words.proofs.Parts.{part_length, put-length, part_same, part_other, p
 use Rattle.slots.specs.Tuple.{tuples_at}
 use Rattle.index.specs.Index.{index_at}
 use Rattle.hits.specs.Hits.{hits_at}
-use Rattle.tables.specs.Tables.{Tables, tables_of, with_cells, with_first, with_count, with_next, with_readers, with_tuples, with_index, with_pool, with_hits, with_clock, right_cells, right_tuples, right_index, right_hits, right_lengths}
+use Rattle.tables.specs.Tables.{tables_of, with_cells, with_first, with_count, with_next, with_readers, with_tuples, with_index, with_pool, with_hits, with_clock, right_cells, right_tuples, right_index, right_hits, right_lengths}
 use Rattle.tables.proofs.Sized.{lengths}
 use Rattle.tables.specs.Grid.{grid, right_words}
 

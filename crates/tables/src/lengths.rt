@@ -4,6 +4,7 @@ ghost use Rattle.tables.specs.Grid.{right_words};
 
 use words::{TIMES, WORDS};
 
+#[tactic(auto, unfolding(crate::specs::Grid::right_words))]
 pub fn right_words(words: usize, times: usize) -> bool
     ensures { result ≡ right_words words times }
 {

@@ -6,10 +6,9 @@ use Prim.Native.Nat.{ℕ, ◌+◌, ◌-◌, ◌≤◌, ◌<◌}
 use native.Mathlib.Nat.{zero-add, suc-add}
 use native.Mathlib.Omega.{arith}
 use lib.Dec.{leb}
-use lib.ListN.{length, take, drop, set, get_or, length-set, length-take, length-drop, length-append, take-append-drop}
+use lib.ListN.{length, take, drop, set, get_or, length-set, length-drop, length-append, take-append-drop}
 use lib.Seq.{length-take-le, take-append-le, drop-append-le, drop-drop, take-add, take-take, take_at, drop_at, get_or-drop, get_or-take, drop-set-add, take-set-le, set-append_left}
-use lib.ListN.{get_or-append}
-use borrow.Author.Tests.{leb-true, leb-false}
+use borrow.Author.Tests.{leb-true}
 use Rattle.words.specs.Part.{part, put, store}
 
 module _ {A : Type 0} (l : List A) (a n : ℕ) (fits : a + n ≤ length l) where

@@ -1,5 +1,5 @@
 -- The tables in the one list of numbers that a caller lends, and the list with one of them replaced.
-use Rattle.std.specs.Prelude.{List, ℕ, drop, get_or, set}
+use Rattle.std.specs.Prelude.{List, ℕ, drop, get_or}
 use Rattle.words.specs.Map.{CELLS, FIRST, COUNT, NEXT, READERS, TUPLES, TUPLES-SIZE, INDEX, INDEX-SIZE, HITS, HITS-SIZE, CLOCK, POOL}
 use Rattle.words.specs.Part.{part, put}
 

@@ -1,5 +1,6 @@
 // The map of the words: where each table begins in the one slice of numbers that a caller lends.
 // A table ends where the next one begins; the pool ends with the slice. The same numbers stand in specs/Map.antt, and nowhere else.
+#![tactic(auto)]
 
 // The lock of each cell, and its first bucket.
 pub const CELLS: usize = 0;
