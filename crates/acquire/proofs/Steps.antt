@@ -1,5 +1,5 @@
 -- Stage 3 on the words: one law for each way, by what the look at the last tuple and the lock of its object answered.
-use mathlib.Core.Path.{◌≡◌, refl, sym, ap, subst, ◌∙◌}
+use mathlib.Core.Path.{◌≡◌, refl, sym, ap, ◌∙◌}
 use mathlib.Core.Logic.{◌≢◌}
 use mathlib.Core.List.{List}
 use Prim.Native.Nat.{ℕ, ◌≤◌, ◌<◌}
@@ -15,8 +15,8 @@ use Rattle.base.specs.declared.Attempt.TheVariants.{Corrupt as AttemptCorrupt, B
 use Rattle.base.specs.declared.Change.{Change}
 use Rattle.base.specs.declared.Change.TheVariants.{Corrupt as ChangeCorrupt, Done as ChangeDone}
 use Rattle.words.specs.Map.{CELLS, INDEX, INDEX-SIZE, WORDS}
-use Rattle.words.specs.Part.{part, store}
-use Rattle.words.specs.Words.{cells_in, first_in, count_in, tuples_in, index_in, put_index}
+use Rattle.words.specs.Part.{store}
+use Rattle.words.specs.Words.{cells_in, index_in, put_index}
 use Rattle.words.proofs.Parts.{part_length, put-length}
 use Rattle.layout.specs.declared.place.Place.{Place}
 use Rattle.cells.specs.Chain.{last_in}
@@ -25,7 +25,7 @@ use Rattle.index.specs.Index.{Index, index_at, with_lock}
 use Rattle.tables.specs.Tables.{Tables, with_cells, with_index, with_locks}
 use Rattle.tables.specs.Grid.{grid}
 use Rattle.tables.proofs.Grid.{put_cells_lem, put_index_lem}
-use Rattle.stage.specs.Turn.{Move, turn_says}
+use Rattle.stage.specs.Turn.{turn_says}
 use Rattle.stage.specs.declared.Stage.{Stage}
 use Rattle.stage.specs.declared.Stage.TheVariants.{CopyLast}
 use Rattle.stage.specs.declared.Turn.TheVariants.{Corrupt, Advanced, Restarted}

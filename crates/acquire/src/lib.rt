@@ -1,5 +1,7 @@
 // Stages 1, 2, 3 and 14 of an update: it takes and releases the locks of objects and cells.
 // On the index, the locks of the cells, or the words that hold all tables; their lengths are the caller's to check.
+#![tactic(auto)]
+
 ghost use Rattle.std.specs.Prelude.{◌≡◌, length};
 ghost use Rattle.index.specs.Index.{index_at, with_lock};
 ghost use Rattle.tables.specs.Tables.{with_locks};
@@ -9,7 +11,7 @@ ghost use Rattle.base.specs.Promise.{AttemptsIn, ChangesIn};
 ghost use Rattle.words.specs.Map.{INDEX-SIZE, WORDS};
 ghost use Rattle.tables.specs.Promise.{OnWords};
 ghost use Rattle.stage.specs.Promise.{Turns};
-ghost use Rattle.base.specs.Lent.{new, old};
+ghost use Rattle.base.specs.Lent.{lent};
 
 use base::{Attempt, CELL_COUNT, Change};
 use cells::{LastTuple, last_tuple};
@@ -23,7 +25,7 @@ use words::{CELLS, FIRST, HITS, INDEX, INDEX_CURRENT, INDEX_LOCKS, INDEX_PREVIOU
 // Takes the lock of an object's entry. Blocked if it is taken.
 fn lock_object(index: &mut [u32], oid: u32, owner: u32) -> Attempt
     requires { length index.old ≡ INDEX-SIZE }
-    ensures { AttemptsIn with_lock (λ d. lock_object d oid owner) result (index_at (old index)) (index_at (new index)) }
+    ensures { AttemptsIn with_lock (λ d. lock_object d oid owner) result (index_at index.old) (index_at index.new) }
 {
     let s = find_object(&index[0..INDEX_LOCKS], oid);
     let Search::Found(i) = s else {
@@ -35,7 +37,7 @@ fn lock_object(index: &mut [u32], oid: u32, owner: u32) -> Attempt
 // Frees the lock of an object's entry.
 fn free_object(index: &mut [u32], oid: u32) -> Change
     requires { length index.old ≡ INDEX-SIZE }
-    ensures { ChangesIn with_lock (λ d. free_object d oid) result (index_at (old index)) (index_at (new index)) }
+    ensures { ChangesIn with_lock (λ d. free_object d oid) result (index_at index.old) (index_at index.new) }
 {
     let s = find_object(&index[0..INDEX_LOCKS], oid);
     let Search::Found(i) = s else {
@@ -47,7 +49,7 @@ fn free_object(index: &mut [u32], oid: u32) -> Change
 // stage 1: takes the object's lock. With a previous place it goes on to lock that place's cell, else to choose the new cell.
 pub fn take_object(index: &mut [u32], oid: u32, owner: u32) -> Turn
     requires { length index.old ≡ INDEX-SIZE }
-    ensures { Turns (λ d. take_on d oid owner) result (index_at (old index)) (index_at (new index)) }
+    ensures { Turns (λ d. take_on d oid owner) result (index_at index.old) (index_at index.new) }
 {
     let s = find_object(&index[0..INDEX_LOCKS], oid);
     let Search::Found(i) = s else {
@@ -83,7 +85,7 @@ pub fn take_object(index: &mut [u32], oid: u32, owner: u32) -> Turn
 
 // stage 2: locks the cell of the place to be erased.
 pub fn lock_cell(cells: &mut [u32], place: Place, owner: u32) -> Turn
-    ensures { Turns (λ l. stage2 l place owner) result (old cells) (new cells) }
+    ensures { Turns (λ l. stage2 l place owner) result cells.old cells.new }
 {
     let cell = place.cell;
     hold_lock(cells, cell as usize, owner, Stage::LookLast(place))
@@ -92,7 +94,7 @@ pub fn lock_cell(cells: &mut [u32], place: Place, owner: u32) -> Turn
 // stage 3, where the other object's lock is taken: releases the own object and the cell, and goes back to stage 1.
 fn go_back(words: &mut [u32], place: Place, oid: u32) -> Turn
     requires { length words.old ≡ WORDS }
-    ensures { OnWords words (Turns (λ t. back_on t place oid) result) }
+    ensures { OnWords (lent words) (Turns (λ t. back_on t place oid) result) }
 {
     let cell = place.cell;
     if cell >= CELL_COUNT {
@@ -110,7 +112,7 @@ fn go_back(words: &mut [u32], place: Place, oid: u32) -> Turn
 // stage 3: takes the lock of the other object.
 fn lock_other(words: &mut [u32], oid: u32, owner: u32) -> Attempt
     requires { length words.old ≡ WORDS }
-    ensures { OnWords words (AttemptsIn with_locks (λ t. lock_object t.index oid owner) result) }
+    ensures { OnWords (lent words) (AttemptsIn with_locks (λ t. lock_object t.index oid owner) result) }
 {
     lock_object(&mut words[INDEX..HITS], oid, owner)
 }
@@ -118,7 +120,7 @@ fn lock_other(words: &mut [u32], oid: u32, owner: u32) -> Attempt
 // stage 3: looks at the last tuple of the cell's first bucket. If it is another object's, it takes that object's lock, or goes back if that is taken.
 pub fn look_last(words: &mut [u32], place: Place, oid: u32, owner: u32) -> Turn
     requires { length words.old ≡ WORDS }
-    ensures { OnWords words (Turns (λ t. last_on t place oid owner) result) }
+    ensures { OnWords (lent words) (Turns (λ t. last_on t place oid owner) result) }
 {
     let l = last_tuple(words, place.cell);
     let LastTuple::At(last) = l else {
@@ -139,7 +141,7 @@ pub fn look_last(words: &mut [u32], place: Place, oid: u32, owner: u32) -> Turn
 // stage 14: releases the object. The update has ended.
 pub fn release_object(index: &mut [u32], oid: u32) -> Turn
     requires { length index.old ≡ INDEX-SIZE }
-    ensures { Turns (λ d. end_on d oid) result (index_at (old index)) (index_at (new index)) }
+    ensures { Turns (λ d. end_on d oid) result (index_at index.old) (index_at index.new) }
 {
     let freed = free_object(index, oid);
     match freed {

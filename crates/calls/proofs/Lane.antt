@@ -9,7 +9,7 @@ use lib.Seq.{set-get_or}
 use Rattle.base.specs.Outcome.{Outcome, corrupt, blocked, done, pick}
 use Rattle.base.specs.Step.{Step}
 use Rattle.tables.specs.Tables.{Tables}
-use Rattle.calls.specs.Call.{Result, refused, answered, after, after_of, unless, stepped, placed}
+use Rattle.calls.specs.Call.{Result, after, after_of, unless, stepped, placed}
 
 module _ {L : Type 0} (d : L) (t : Tables) (ls : List L) (l : ℕ) where
   -- a lane that stays as it is

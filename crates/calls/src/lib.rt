@@ -1,4 +1,6 @@
 // The words in which the calls are specified: what a call comes to, the tests that refuse it, and the causes of its number.
+#![tactic(auto)]
+
 ghost use Rattle.std.specs.Prelude.{◌≡◌, ◌≤◌};
 ghost use Rattle.base.specs.Numbers.{NO-SUCH-LANE, CORRUPT};
 ghost use Rattle.base.specs.Outcome.{pick};
@@ -19,6 +21,7 @@ pub fn no_lane(words: usize, times: usize) -> u32
 }
 
 // How many steps a step was that gave this number: 1 if it was carried out, 0 if it was blocked or refused.
+#[tactic(auto, unfolding(crate::specs::Run::carried_out, base::specs::Outcome::pick))]
 pub fn carried_out(number: u32) -> u32
     ensures { (result ≡ carried_out number) × (result ≤ 1) }
 {

@@ -1,5 +1,7 @@
 // Stage 8 of an update (document 01: the stages of a report): the tuple is overwritten in its cell, or another cell is locked for it.
 // On the words that hold all tables; their number is the caller's to check. The clock is stored last, when nothing can refuse.
+#![tactic(auto)]
+
 ghost use Rattle.std.specs.Prelude.{◌≡◌, List, ℤ, length};
 ghost use Rattle.base.specs.Outcome.{tells};
 ghost use Rattle.layout.specs.Place.{place_values, place_read_says};
@@ -8,7 +10,7 @@ ghost use Rattle.choose.specs.On.{here_on, rewrite_on, lock_new_on, stage8_on};
 ghost use Rattle.tables.specs.Promise.{OnGrid, OnWords};
 ghost use Rattle.words.specs.Map.{TIMES, WORDS};
 ghost use Rattle.stage.specs.Promise.{Turns};
-ghost use Rattle.base.specs.Lent.{old};
+ghost use Rattle.base.specs.Lent.{lent};
 
 use base::{Change, LAST_STAMP};
 use cells::overwrite_slot;
@@ -30,7 +32,7 @@ fn rewrite_tuple(
     tag: u32,
 ) -> Turn
     requires { (length words.old ≡ WORDS) × (length times.old ≡ TIMES) }
-    ensures { OnGrid words times (Turns (λ t. rewrite_on t place oid x y tag) result) }
+    ensures { OnGrid (lent words) (lent times) (Turns (λ t. rewrite_on t place oid x y tag) result) }
 {
     let last = words[CLOCK];
     if last >= LAST_STAMP {
@@ -50,7 +52,7 @@ fn rewrite_tuple(
 // Locks the cell into which the tuple will be written.
 fn lock_new(words: &mut [u32], cell: u32, owner: u32) -> Turn
     requires { length words.old ≡ WORDS }
-    ensures { OnWords words (Turns (λ t. lock_new_on t cell owner) result) }
+    ensures { OnWords (lent words) (Turns (λ t. lock_new_on t cell owner) result) }
 {
     hold_lock(
         &mut words[CELLS..FIRST],
@@ -63,7 +65,7 @@ fn lock_new(words: &mut [u32], cell: u32, owner: u32) -> Turn
 // The current place of an object that is to stand at a point of the grid.
 fn current_place(words: &[u32], oid: u32, x: u32, y: u32) -> PlaceRead
     requires { length words.now ≡ WORDS }
-    ensures { (ts : List ℤ) → tells place_values (here_on (grid (old words) ts) oid x y) ≡ place_read_says result }
+    ensures { (ts : List ℤ) → tells place_values (here_on (grid words.now ts) oid x y) ≡ place_read_says result }
 {
     if !on_grid(x, y) {
         return PlaceRead::Corrupt;
@@ -86,7 +88,7 @@ pub fn choose_cell(
     owner: u32,
 ) -> Turn
     requires { (length words.old ≡ WORDS) × (length times.old ≡ TIMES) }
-    ensures { OnGrid words times (Turns (λ t. stage8_on t oid x y tag owner) result) }
+    ensures { OnGrid (lent words) (lent times) (Turns (λ t. stage8_on t oid x y tag owner) result) }
 {
     let here = current_place(words, oid, x, y);
     let cell = cell_of(x, y);

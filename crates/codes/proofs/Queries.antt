@@ -1,12 +1,12 @@
 -- CODING AND DECODING OF QUERY LANES ARE INVERSE: as Updaters.antt says it of update lanes.
 use mathlib.Core.Path.{◌≡◌, refl, sym, ap, ◌∙◌}
 use mathlib.Core.Logic.{◌≢◌}
-use mathlib.Core.Bool.{true, false, and-eq-true_iff}
+use mathlib.Core.Bool.{true, and-eq-true_iff}
 use mathlib.Core.List.{List, [], ◌∷◌}
 use Prim.Native.Nat.{ℕ, zero, suc, ◌+◌, ◌*◌, ◌<◌, ◌≤◌}
 use native.Mathlib.Omega.{arith}
 use lib.Dec.{eqb, leb}
-use lib.ListN.{length, get_or, set, replicate}
+use lib.ListN.{length, set, replicate}
 use lib.Seq.{sets, set-get_or}
 use borrow.Author.Tests.{ne_eqb, leb-true}
 use Rattle.base.specs.Outcome.{pick}

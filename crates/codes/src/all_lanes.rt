@@ -1,6 +1,5 @@
 // All lanes of a deck in their numbers: what the numbers of their stages tell.
 ghost use Rattle.std.specs.Prelude.{◌≡◌, ◌&&◌, eqb};
-ghost use Rattle.base.specs.Lent.{old};
 ghost use Rattle.codes.specs.Rest.{stages_to, scans_to};
 
 use crate::query_lane::{QUERY_NUMBERS, SCAN_AT};
@@ -8,7 +7,7 @@ use crate::update_lane::{STAGE_AT, UPDATER_NUMBERS};
 
 // No number of an update's stage is above the last one.
 pub fn stages_to(lanes: &[u32; 80], last: u32) -> bool
-    ensures { result ≡ stages_to (old lanes) last }
+    ensures { result ≡ stages_to lanes.now last }
 {
     let mut i: usize = 0;
     while i < 8 {
@@ -22,7 +21,7 @@ pub fn stages_to(lanes: &[u32; 80], last: u32) -> bool
 
 // No number of what comes next in a query is above the last one.
 pub fn scans_to(lanes: &[u32; 52], last: u32) -> bool
-    ensures { result ≡ scans_to (old lanes) last }
+    ensures { result ≡ scans_to lanes.now last }
 {
     let mut i: usize = 0;
     while i < 4 {
@@ -36,7 +35,7 @@ pub fn scans_to(lanes: &[u32; 52], last: u32) -> bool
 
 // 0 if every lane is idle, else 1.
 pub fn moving(updaters: &[u32; 80], queries: &[u32; 52]) -> u32
-    ensures { eqb result 0 ≡ (stages_to (old updaters) 0 && scans_to (old queries) 0) }
+    ensures { eqb result 0 ≡ (stages_to updaters.now 0 && scans_to queries.now 0) }
 {
     if !stages_to(updaters, 0) {
         return 1;

@@ -2,7 +2,6 @@
 // stamp, hits, steps, number of what comes next (0 idle, 1 enter a cell, 2 read, 3 finished), cell, bucket, slots left.
 // What does not come next is 0.
 ghost use Rattle.std.specs.Prelude.{◌≡◌, true, ◌&&◌, ◌+◌, ◌≤◌, eqb, leb};
-ghost use Rattle.base.specs.Lent.{new, old};
 ghost use Rattle.std.proofs.lemmas.List.Edits.{sets};
 ghost use Rattle.words.specs.Part.{part};
 ghost use Rattle.queries.specs.Query.{is_idle};
@@ -27,7 +26,7 @@ pub const LAST_SCAN: u32 = 3;
 pub const LAST_KIND: u32 = 2;
 
 // What comes next, in numbers.
-#[derive(Drop)]
+#[derive(Clone, Copy)]
 pub struct ScanCode {
     pub stage: u32,
     pub cell: u32,
@@ -96,7 +95,7 @@ pub fn kind_of(n: u32) -> Kind
 // Whether the numbers of a lane that begin there name what comes next and a kind of question.
 pub fn names_query(lanes: &[u32; 52], at: usize) -> bool
     requires { at ≤ 39 }
-    ensures { result ≡ (leb (entry (old lanes) (at + 9)) 3 && names_kind (entry (old lanes) at)) }
+    ensures { result ≡ (leb (entry lanes.now (at + 9)) 3 && names_kind (entry lanes.now at)) }
 {
     if lanes[at + SCAN_AT] > LAST_SCAN {
         return false;
@@ -140,7 +139,7 @@ pub fn seen_query(stage: u32) -> Query
 // The query whose numbers begin there.
 pub fn load_query(lanes: &[u32; 52], at: usize) -> Query
     requires { at ≤ 39 }
-    ensures { result ≡ decode_query (part at QUERY-NUMBERS (old lanes)) }
+    ensures { result ≡ decode_query (part at QUERY-NUMBERS lanes.now) }
 {
     let area = Rectangle {
         x0: lanes[at + 1],
@@ -171,7 +170,7 @@ pub fn load_query(lanes: &[u32; 52], at: usize) -> Query
 // Stores the numbers of a query from there on.
 pub fn store_query(lanes: &mut [u32; 52], at: usize, q: Query)
     requires { at ≤ 39 }
-    ensures { new lanes ≡ sets (old lanes) at (code_query q) }
+    ensures { lanes.new ≡ sets lanes.old at (code_query q) }
 {
     let question = q.question;
     let area = question.area;
@@ -198,7 +197,7 @@ pub fn store_query(lanes: &mut [u32; 52], at: usize, q: Query)
 // Stores the numbers of a query that was just started: about to enter its first cell.
 pub fn store_begun(lanes: &mut [u32; 52], at: usize, question: Region, stamp: u32, cell: u32)
     requires { at ≤ 39 }
-    ensures { new lanes ≡ sets (old lanes) at (code_query (query_of question stamp 0 0 (Enter cell))) }
+    ensures { lanes.new ≡ sets lanes.old at (code_query (query_of question stamp 0 0 (Enter cell))) }
 {
     let area = question.area;
     let k = question.kind;
@@ -221,7 +220,7 @@ pub fn store_begun(lanes: &mut [u32; 52], at: usize, question: Region, stamp: u3
 // Makes the query whose numbers begin there, which name something, idle.
 pub fn store_idle(lanes: &mut [u32; 52], at: usize)
     requires { (at ≤ 39) × (names_kind (entry lanes.old at) ≡ true) }
-    ensures { new lanes ≡ sets (old lanes) at (code_query (idled (decode_query (part at QUERY-NUMBERS (old lanes))))) }
+    ensures { lanes.new ≡ sets lanes.old at (code_query (idled (decode_query (part at QUERY-NUMBERS lanes.old)))) }
 {
     lanes[at + SCAN_AT] = 0;
     lanes[at + 10] = 0;

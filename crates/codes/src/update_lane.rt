@@ -1,7 +1,6 @@
 // A lane of an update in ten numbers: object, x, y, tag, number of the stage (0 idle, 1 to 14 as document 01 counts them), cell, bucket and slot of the place,
 // the object that moves, the unlinked bucket. What a stage does not carry is 0.
 ghost use Rattle.std.specs.Prelude.{◌≡◌, ◌≤◌, eqb};
-ghost use Rattle.base.specs.Lent.{new, old};
 ghost use Rattle.std.proofs.lemmas.List.Edits.{sets};
 ghost use Rattle.words.specs.Part.{part};
 ghost use Rattle.stage.specs.Turn.{is_idle};
@@ -18,7 +17,7 @@ pub const STAGE_AT: usize = 4;
 pub const LAST_STAGE: u32 = 14;
 
 // A stage in numbers.
-#[derive(Drop)]
+#[derive(Clone, Copy)]
 pub struct StageCode {
     pub stage: u32,
     pub place: Place,
@@ -134,7 +133,7 @@ pub fn seen_updater(stage: u32) -> Updater
 // The update whose numbers begin there.
 pub fn load_updater(lanes: &[u32; 80], at: usize) -> Updater
     requires { at ≤ 70 }
-    ensures { result ≡ decode_updater (part at UPDATER-NUMBERS (old lanes)) }
+    ensures { result ≡ decode_updater (part at UPDATER-NUMBERS lanes.now) }
 {
     let place = Place {
         cell: lanes[at + 5],
@@ -154,7 +153,7 @@ pub fn load_updater(lanes: &[u32; 80], at: usize) -> Updater
 // Stores the numbers of an update from there on.
 pub fn store_updater(lanes: &mut [u32; 80], at: usize, u: Updater)
     requires { at ≤ 70 }
-    ensures { new lanes ≡ sets (old lanes) at (code_updater u) }
+    ensures { lanes.new ≡ sets lanes.old at (code_updater u) }
 {
     let s = u.stage;
     let code = code_stage(s);
@@ -174,7 +173,7 @@ pub fn store_updater(lanes: &mut [u32; 80], at: usize, u: Updater)
 // Stores the numbers of an update that was just started.
 pub fn store_started(lanes: &mut [u32; 80], at: usize, oid: u32, x: u32, y: u32, tag: u32)
     requires { at ≤ 70 }
-    ensures { new lanes ≡ sets (old lanes) at (code_updater (started_updater oid x y tag)) }
+    ensures { lanes.new ≡ sets lanes.old at (code_updater (started_updater oid x y tag)) }
 {
     lanes[at] = oid;
     lanes[at + 1] = x;

@@ -1,6 +1,6 @@
 -- A COLLECTION IS A READING AND THEN THE CLEARING, for all tables, lanes and lent lists: refused as the reading is, and then nothing is cleared; else number, steps
 -- and list are those of the reading, and the lanes are those that the clearing leaves. And the tests that a collection makes, written out. By the cases of a reading.
-use mathlib.Core.Path.{◌≡◌, refl, ap, sym, ◌∙◌}
+use mathlib.Core.Path.{◌≡◌, refl, ap, ◌∙◌}
 use mathlib.Core.Logic.{◌≢◌}
 use mathlib.Core.Bool.{Bool, true, false, not}
 use mathlib.Core.List.{List, []}
@@ -11,11 +11,11 @@ use borrow.Author.Tests.{ne_eqb}
 use Rattle.base.specs.Outcome.{pick}
 use Rattle.query.specs.declared.Query.{Query}
 use Rattle.tables.specs.Tables.{Tables, right_lengths}
-use Rattle.calls.specs.Call.{Result, answered, After, after, after_of, unless}
+use Rattle.calls.specs.Call.{Result, answered, after, after_of, unless}
 use Rattle.queries.specs.Query.{idle_query, is_idle, is_finished}
 use Rattle.collect.specs.Collect.{Handed, handed_of, read_query, clear_query, cleared, then_clear, collect_query}
 use Rattle.collect.specs.Filling.{Filling, filling_of, written, read_into, collect_into}
-use Rattle.collect.proofs.Cases.{idled_lane, clear_passes, read_out, taken_out, Ready, read_cases, collect_cases}
+use Rattle.collect.proofs.Cases.{idled_lane, clear_passes, read_out, taken_out, Ready, read_cases}
 
 -- with the queries as they are left
 abbrev pub with_queries : Filling → List Query → Filling

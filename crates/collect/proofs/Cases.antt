@@ -1,7 +1,7 @@
 -- HOW A READING, A CLEARING AND A COLLECTION END: by one of their tests, or past all of them. What holds of each end holds of the call, and an accepted one tells
 -- what it has passed. The clearing repeats the first four tests of the reading, so after an accepted reading it is accepted: a collection ends as its reading does,
 -- with the lane idled.
-use mathlib.Core.Path.{◌≡◌, refl, ap, sym, subst, ◌∙◌}
+use mathlib.Core.Path.{◌≡◌, refl, ap, sym, subst}
 use mathlib.Core.Bool.{Bool, true, false, not}
 use mathlib.Core.List.{List}
 use Prim.Native.Nat.{ℕ, ◌*◌}

@@ -4,7 +4,7 @@ use mathlib.Core.Path.{◌≡◌, refl}
 use mathlib.Core.Bool.{Bool, true, false}
 use mathlib.Core.List.{List, []}
 use Prim.Native.Nat.{ℕ, ◌≤◌}
-use lib.ListN.{length, get_or, set}
+use lib.ListN.{get_or}
 use borrow.Author.Tests.{le-ltb}
 use Rattle.base.specs.Outcome.{pick}
 use Rattle.query.specs.declared.Query.{Query}

@@ -1,5 +1,6 @@
 // CLEARING, the public operation, in one lane and among all lanes.
 ghost use Rattle.std.specs.Prelude.{◌≡◌};
+ghost use Rattle.base.specs.Lent.{seen};
 ghost use Rattle.collect.specs.Collect.{idled};
 ghost use Rattle.collect.specs.Promise.{Clears, ClearsOne};
 ghost use Rattle.tables.specs.Promise.{OnGrid};
@@ -26,7 +27,7 @@ fn idle(q: Query) -> Query
 
 // Idles the finished query of a lane, given by value. Gives 0, or is refused with 12 (lengths), 1, 3 or 10, which leaves the query as it is.
 pub fn clear_one(q: Query, lane: u32, words: &[u32], times: &[i32]) -> SweptOne
-    ensures { OnGrid words times (ClearsOne q lane result) }
+    ensures { OnGrid (seen words) (seen times) (ClearsOne q lane result) }
 {
     if !right_words(words.len(), times.len()) {
         return SweptOne {
@@ -62,7 +63,7 @@ pub fn clear_one(q: Query, lane: u32, words: &[u32], times: &[i32]) -> SweptOne
 
 // Idles one of the lanes: what `clear_one` does there.
 pub fn clear(queries: [Query; 4], lane: u32, words: &[u32], times: &[i32]) -> Swept
-    ensures { OnGrid words times (Clears queries lane result) }
+    ensures { OnGrid (seen words) (seen times) (Clears queries lane result) }
 {
     if lane >= QUERY_COUNT {
         let number = no_lane(words.len(), times.len());

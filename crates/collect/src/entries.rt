@@ -4,14 +4,13 @@ ghost use Rattle.hits.specs.Hits.{hits_at};
 ghost use Rattle.collect.specs.Collect.{entries_from};
 ghost use Rattle.collect.specs.Filling.{over};
 ghost use Rattle.words.specs.Map.{HITS-SIZE};
-ghost use Rattle.base.specs.Lent.{new, old};
 
 use words::{HIT_TAGS, HIT_XS, HIT_YS};
 
 // Writes so many entries, from one on, over the front of a list: object, x, y and tag of each. Later numbers are left alone.
 pub fn write_entries(hits: &[u32], from: usize, size: usize, out: &mut [u32])
     requires { (length hits.now ≡ HITS-SIZE) × (from + size ≤ 1024) × (4 * size ≤ length out.old) }
-    ensures { new out ≡ over (entries_from (hits_at (old hits)) from size) (old out) }
+    ensures { out.new ≡ over (entries_from (hits_at hits.now) from size) out.old }
 {
     let mut i = 0;
     while i < size {

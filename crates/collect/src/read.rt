@@ -1,6 +1,6 @@
 // READING, the public operation, in one lane, among all lanes, and in the form that document 01 names.
 ghost use Rattle.std.specs.Prelude.{◌≡◌};
-ghost use Rattle.base.specs.Lent.{new, old};
+ghost use Rattle.base.specs.Lent.{seen, lent};
 ghost use Rattle.tables.specs.Grid.{grid};
 ghost use Rattle.tables.specs.Promise.{OnGrid};
 ghost use Rattle.collect.specs.Filling.{parted_of, read_part};
@@ -15,7 +15,7 @@ use tables::lengths::right_words;
 use words::{CLOCK, HITS};
 
 // The number that a reading gives (document 01), the steps of the query, and how many numbers of the lent list are filled.
-#[derive(Drop)]
+#[derive(Clone, Copy)]
 pub struct Reading {
     pub number: u32,
     pub steps: u32,
@@ -26,7 +26,7 @@ pub struct Reading {
 // and the query stays as it is. Gives 0, or is refused with 12 (lengths), 1, 3, 10, 11 or 12 (the number of hits), which leaves the list as it is.
 // The filled part is `out[..filled]`.
 pub fn read_one(q: Query, lane: u32, out: &mut [u32], words: &[u32], times: &[i32]) -> Reading
-    ensures { OnGrid words times (ReadsOne q lane out result) }
+    ensures { OnGrid (seen words) (seen times) (ReadsOne q lane (lent out) result) }
 {
     let right = right_words(words.len(), times.len());
     let admission = admit(right, q, lane, out.len());
@@ -57,7 +57,7 @@ pub fn read_into(
     words: &[u32],
     times: &[i32],
 ) -> Reading
-    ensures { OnGrid words times (Reads queries lane out result) }
+    ensures { OnGrid (seen words) (seen times) (Reads queries lane (lent out) result) }
 {
     if lane >= QUERY_COUNT {
         let number = no_lane(words.len(), times.len());
@@ -82,7 +82,7 @@ pub fn read<'a>(
     words: &[u32],
     times: &[i32],
 ) -> &'a mut [u32]
-    ensures { read_part (grid (old words) (old times)) queries lane out.old ≡ parted_of (new number) (new steps) result.now }
+    ensures { read_part (grid words.now times.now) queries lane out.old ≡ parted_of number.new steps.new result.now }
 {
     let reading = read_into(queries, lane, out, words, times);
     *number = reading.number;

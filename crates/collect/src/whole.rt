@@ -1,5 +1,6 @@
 // COLLECTION, the public operation: a reading and then the clearing.
 ghost use Rattle.collect.specs.Promise.{Collects};
+ghost use Rattle.base.specs.Lent.{seen, lent};
 ghost use Rattle.tables.specs.Promise.{OnGrid};
 
 use crate::clear::clear;
@@ -8,7 +9,7 @@ use base::DONE;
 use query::Query;
 
 // The number that a collection gives (document 01), the steps of the query, how many numbers of the lent list are filled, and the queries afterwards.
-#[derive(Drop)]
+#[derive(Clone, Copy)]
 pub struct Collected {
     pub number: u32,
     pub steps: u32,
@@ -24,7 +25,7 @@ pub fn collect(
     words: &[u32],
     times: &[i32],
 ) -> Collected
-    ensures { OnGrid words times (Collects queries lane out result) }
+    ensures { OnGrid (seen words) (seen times) (Collects queries lane (lent out) result) }
 {
     let reading = read_into(queries, lane, out, words, times);
     let number = reading.number;

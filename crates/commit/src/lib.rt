@@ -1,6 +1,9 @@
 // Stages 11 to 13 of an update (document 01: the stages of a report): the new tuple counts, the object index names it, the old tuple is deleted.
 // On the words that hold all tables; their number is the caller's to check.
+#![tactic(auto)]
+
 ghost use Rattle.std.specs.Prelude.{◌≡◌, ◌<◌, length};
+ghost use Rattle.base.specs.Lent.{lent};
 ghost use Rattle.commit.specs.On.{stage11_on, freed, stage12_on, stage13_on, ShiftsAt};
 ghost use Rattle.tables.specs.Promise.{OnGrid, OnWords};
 ghost use Rattle.words.specs.Map.{TIMES, WORDS};
@@ -19,7 +22,7 @@ use words::{CELLS, CLOCK, COUNT, HITS, INDEX, NEXT};
 // stage 11: the tuple at the place counts from now on.
 pub fn raise(words: &mut [u32], place: Place) -> Turn
     requires { length words.old ≡ WORDS }
-    ensures { OnWords words (Turns (λ t. stage11_on t place) result) }
+    ensures { OnWords (lent words) (Turns (λ t. stage11_on t place) result) }
 {
     let raised = raise_count(&mut words[COUNT..NEXT], place.bucket);
     turn_after(raised, Stage::SwitchPlace(place))
@@ -28,7 +31,7 @@ pub fn raise(words: &mut [u32], place: Place) -> Turn
 // Shifts the places of an entry of the index.
 fn shift_entry(words: &mut [u32], at: usize, place: Place) -> PlaceRead
     requires { length words.old ≡ WORDS }
-    ensures { OnWords words (ShiftsAt at place result) }
+    ensures { OnWords (lent words) (ShiftsAt at place result) }
 {
     shift_place(&mut words[INDEX..HITS], at, place)
 }
@@ -36,7 +39,7 @@ fn shift_entry(words: &mut [u32], at: usize, place: Place) -> PlaceRead
 // Frees a cell.
 fn free_cell(words: &mut [u32], cell: u32)
     requires { (length words.old ≡ WORDS) × (cell < 256) }
-    ensures { OnWords words (λ t t'. t' ≡ freed t cell) }
+    ensures { OnWords (lent words) (λ t t'. t' ≡ freed t cell) }
 {
     words[CELLS + cell as usize] = 0;
 }
@@ -44,7 +47,7 @@ fn free_cell(words: &mut [u32], cell: u32)
 // stage 12: the index names the place, and the cell is free again.
 pub fn switch_place(words: &mut [u32], place: Place, oid: u32) -> Turn
     requires { length words.old ≡ WORDS }
-    ensures { OnWords words (Turns (λ t. stage12_on t place oid) result) }
+    ensures { OnWords (lent words) (Turns (λ t. stage12_on t place oid) result) }
 {
     let s = seek_object(words, oid);
     let Search::Found(i) = s else {
@@ -71,7 +74,7 @@ pub fn switch_place(words: &mut [u32], place: Place, oid: u32) -> Turn
 // stage 13: the old tuple gets the negative of a new stamp. The clock is stored last, when nothing can refuse.
 pub fn delete_old(words: &mut [u32], times: &mut [i32], place: Place) -> Turn
     requires { (length words.old ≡ WORDS) × (length times.old ≡ TIMES) }
-    ensures { OnGrid words times (Turns (λ t. stage13_on t place) result) }
+    ensures { OnGrid (lent words) (lent times) (Turns (λ t. stage13_on t place) result) }
 {
     let last = words[CLOCK];
     if last >= LAST_STAMP {

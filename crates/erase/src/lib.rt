@@ -1,6 +1,9 @@
 // Stages 4 to 7 of an update: a tuple is erased by moving the cell's last one over it.
 // On the words that hold all tables, and the stamps; their numbers are the caller's to check.
+#![tactic(auto)]
+
 ghost use Rattle.std.specs.Prelude.{◌≡◌, ◌<◌, length};
+ghost use Rattle.base.specs.Lent.{seen, lent};
 ghost use Rattle.erase.specs.On.{stage4_on, stage5_on, stage6_on, moved_on, stage7_on};
 ghost use Rattle.tables.specs.Promise.{OnGrid, OnWords};
 ghost use Rattle.words.specs.Map.{TIMES, WORDS};
@@ -18,7 +21,7 @@ use words::{CELLS, CURRENT, LOCKS, PREVIOUS};
 // stage 4: copies the last tuple of the cell's first bucket over the one being erased
 pub fn copy_last(words: &mut [u32], times: &mut [i32], place: Place, moved: u32) -> Turn
     requires { (length words.old ≡ WORDS) × (length times.old ≡ TIMES) }
-    ensures { OnGrid words times (Turns (λ t. stage4_on t place moved) result) }
+    ensures { OnGrid (lent words) (lent times) (Turns (λ t. stage4_on t place moved) result) }
 {
     let found = last_tuple(words, place.cell);
     let LastTuple::At(last) = found else {
@@ -38,7 +41,7 @@ pub fn copy_last(words: &mut [u32], times: &mut [i32], place: Place, moved: u32)
 // stage 5: lowers the first bucket's count; at zero the bucket is unlinked, and returned next
 pub fn lower_first(words: &mut [u32], place: Place, moved: u32) -> Turn
     requires { length words.old ≡ WORDS }
-    ensures { OnWords words (Turns (λ t. stage5_on t place moved) result) }
+    ensures { OnWords (lent words) (Turns (λ t. stage5_on t place moved) result) }
 {
     let lowered = lower_count(words, place.cell);
     match lowered {
@@ -51,7 +54,7 @@ pub fn lower_first(words: &mut [u32], place: Place, moved: u32) -> Turn
 // stage 6: returns the unlinked bucket to the pool; blocked while it has readers
 pub fn give_back(words: &mut [u32], place: Place, moved: u32, bucket: u32) -> Turn
     requires { length words.old ≡ WORDS }
-    ensures { OnWords words (Turns (λ t. stage6_on t place moved bucket) result) }
+    ensures { OnWords (lent words) (Turns (λ t. stage6_on t place moved bucket) result) }
 {
     let returned = return_bucket(words, bucket);
     turn_attempted(returned, Stage::ErasePlace(place, moved))
@@ -60,7 +63,7 @@ pub fn give_back(words: &mut [u32], place: Place, moved: u32, bucket: u32) -> Tu
 // stage 7: erases the object's previous place and releases the cell; where another object's tuple moved, in correct_moved
 pub fn erase_entry(words: &mut [u32], times: &[i32], place: Place, moved: u32, oid: u32) -> Turn
     requires { (length words.old ≡ WORDS) × (length times.now ≡ TIMES) }
-    ensures { OnGrid words times (Turns (λ t. stage7_on t place moved oid) result) }
+    ensures { OnGrid (lent words) (seen times) (Turns (λ t. stage7_on t place moved oid) result) }
 {
     let s = seek_object(words, oid);
     let Search::Found(i) = s else {
@@ -81,7 +84,7 @@ pub fn erase_entry(words: &mut [u32], times: &[i32], place: Place, moved: u32, o
 // stage 7 from the object's entry i on, where another object's tuple moved: that object's entry names the new place, and its lock is released too
 fn correct_moved(words: &mut [u32], times: &[i32], place: Place, moved: u32, i: usize) -> Turn
     requires { (length words.old ≡ WORDS) × (length times.now ≡ TIMES) × (i < 512) }
-    ensures { OnGrid words times (Turns (λ t. moved_on t place moved i) result) }
+    ensures { OnGrid (lent words) (seen times) (Turns (λ t. moved_on t place moved i) result) }
 {
     let s = seek_object(words, moved);
     let Search::Found(j) = s else {

@@ -2,11 +2,10 @@
 use mathlib.Core.Path.{◌≡◌, refl}
 use mathlib.Core.List.{[]}
 use Prim.Native.Nat.{ℕ}
-use lib.Dec.{eqb}
 use Rattle.base.specs.Outcome.{pick}
 use Rattle.base.proofs.Table.{clash}
 use Rattle.calls.specs.Call.{Result, After, after}
-use Rattle.collect.specs.Collect.{Handed, handed_of, read_query, clear_query, cleared, then_clear, collect_query}
+use Rattle.collect.specs.Collect.{Handed, handed_of, clear_query, cleared, then_clear, collect_query}
 use Rattle.collect.proofs.Cases.{clear_passes, read_cases}
 use Rattle.grid.specs.Run.{Grid, grid_of, Answer, answer_of, read, clear, collect, call, then_clears}
 

@@ -5,7 +5,7 @@ ghost use Rattle.tables.specs.Grid.{grid};
 ghost use Rattle.tables.specs.Promise.{OnGrid};
 ghost use Rattle.grid.specs.Promise.{Resets};
 ghost use Rattle.words.specs.Map.{WORDS};
-ghost use Rattle.base.specs.Lent.{new};
+ghost use Rattle.base.specs.Lent.{lent};
 
 use base::{CORRUPT, Change, DONE, NO_BUCKET};
 use layout::place::NOWHERE;
@@ -19,7 +19,7 @@ use updates::lanes::idle_updaters;
 use words::{COUNT, CURRENT, FIRST, HITS, NEXT, POOL, READERS, WORDS};
 
 // The number that reset gives (document 01), and the lanes afterwards.
-#[derive(Drop)]
+#[derive(Clone, Copy)]
 pub struct Fresh {
     pub number: u32,
     pub updaters: [Updater; 8],
@@ -29,7 +29,7 @@ pub struct Fresh {
 // Fills the words with those of an empty grid.
 fn empty_words(words: &mut [u32])
     requires { length words.old ≡ WORDS }
-    ensures { (ts : List ℤ) → grid (new words) ts ≡ with_times empty_tables ts }
+    ensures { (ts : List ℤ) → grid words.new ts ≡ with_times empty_tables ts }
 {
     fill_numbers(words, 0);
     fill_numbers(&mut words[FIRST..COUNT], NO_BUCKET);
@@ -47,7 +47,7 @@ pub fn reset(
     words: &mut [u32],
     times: &mut [i32],
 ) -> Fresh
-    ensures { OnGrid words times (Resets updaters queries result) }
+    ensures { OnGrid (lent words) (lent times) (Resets updaters queries result) }
 {
     if !right_words(words.len(), times.len()) {
         return Fresh {

@@ -1,12 +1,10 @@
 -- How a start and a run end, of lanes of any kind: a start is refused with a number that is not 0, or leaves one lane that is known beforehand; a run leaves the
 -- numbers of its lane where no step was carried out.
-use mathlib.Core.Path.{◌≡◌, refl, sym, ap, ◌∙◌}
+use mathlib.Core.Path.{◌≡◌, sym, ap, ◌∙◌}
 use mathlib.Core.Logic.{◌≢◌}
 use mathlib.Core.Bool.{Bool, true, false}
 use mathlib.Core.List.{List}
 use Prim.Native.Nat.{ℕ}
-use native.Mathlib.Omega.{arith}
-use lib.Dec.{eqb}
 use borrow.Author.Tests.{eq-eqb, ne_eqb}
 use Rattle.base.specs.Outcome.{pick}
 use Rattle.tables.specs.Tables.{Tables}

@@ -1,5 +1,5 @@
 -- A reset over variable tables and lanes: by the number that the reset of the grid gives.
-use mathlib.Core.Path.{◌≡◌, refl, sym, ap, ◌∙◌}
+use mathlib.Core.Path.{◌≡◌, refl, sym, ap}
 use mathlib.Core.Logic.{◌≢◌}
 use mathlib.Core.Bool.{Bool, true, false}
 use mathlib.Core.List.{List}
@@ -7,7 +7,6 @@ use Prim.Native.Nat.{ℕ}
 use native.Mathlib.Omega.{arith}
 use lib.ListN.{length, replicate}
 use Rattle.tables.specs.Tables.{Tables, right_lengths, empty_tables}
-use Rattle.base.proofs.Table.{by_test}
 use Rattle.stage.specs.declared.Updater.{Updater}
 use Rattle.query.specs.declared.Query.{Query}
 use Rattle.calls.specs.Call.{After, after, after_of, unless}

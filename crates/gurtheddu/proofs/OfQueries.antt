@@ -27,7 +27,7 @@ use Rattle.collect.specs.One.{HandedOne, handed_one_of, read_one_of, clear_one, 
 use Rattle.collect.proofs.Written.{entries_length}
 use Rattle.codes.specs.Queries.{asked_by, scan_in, names_query, query_in, with_query}
 use Rattle.gurtheddu.specs.Coded.{coded, coded_run, start_sweep, run_sweep, read_from, clear_lane}
-use Rattle.gurtheddu.proofs.Ends.{Starting, away, let_in, past, start_away, start_done, run_nothing, run_some}
+use Rattle.gurtheddu.proofs.Ends.{Starting, let_in, past, start_away, start_done, run_nothing, run_some}
 use Rattle.codes.proofs.Queries.{named_parts, lane_seen}
 
 -- ---- a start

@@ -1,5 +1,5 @@
 -- The exports of updates over variable tables and lanes, one law for each way in which they return.
-use mathlib.Core.Path.{◌≡◌, refl, sym, ap, ◌∙◌}
+use mathlib.Core.Path.{◌≡◌, sym, ap, ◌∙◌}
 use mathlib.Core.Logic.{◌≢◌}
 use mathlib.Core.List.{List}
 use Prim.Native.Nat.{ℕ, ◌<◌, ◌≤◌}
@@ -11,7 +11,7 @@ use Rattle.index.specs.Index.{Index}
 use Rattle.stage.specs.Turn.{is_idle}
 use Rattle.stage.specs.declared.Updater.{Updater}
 use Rattle.tables.specs.Tables.{Tables}
-use Rattle.calls.specs.Call.{Result, after, after_of, unless}
+use Rattle.calls.specs.Call.{after, after_of, unless}
 use Rattle.calls.specs.Run.{ran_of}
 use Rattle.updates.specs.One.{started_one, start_one}
 use Rattle.update_run.specs.Run.{run_one}

@@ -4,7 +4,7 @@
 use mathlib.Core.Path.{◌≡◌, refl, sym, ap, ◌∙◌}
 use mathlib.Core.Logic.{◌≢◌}
 use mathlib.Core.Bool.{Bool, true, false}
-use mathlib.Core.List.{List, [], ◌∷◌}
+use mathlib.Core.List.{List, ◌∷◌}
 use Prim.Native.Nat.{ℕ, zero, suc, ◌+◌, ◌<◌, ◌≤◌}
 use native.Mathlib.Omega.{arith}
 use lib.Dec.{eqb, ltb}
@@ -36,8 +36,8 @@ use Rattle.update_run.specs.Run.{run_one, lane_run}
 use Rattle.update_run.proofs.Lanes.{update_run_calls}
 use Rattle.query_run.specs.Run.{run_one as runQuery, lane_run as runQueries}
 use Rattle.query_run.proofs.Lanes.{query_run_calls}
-use Rattle.codes.specs.Updaters.{names_stage, updater_in, with_updater}
-use Rattle.codes.specs.Queries.{names_query, query_in, with_query}
+use Rattle.codes.specs.Updaters.{updater_in, with_updater}
+use Rattle.codes.specs.Queries.{query_in, with_query}
 use Rattle.codes.proofs.Updaters.{updater_same, updater_below, updater_above}
 use Rattle.codes.proofs.Queries.{query_same, query_below, query_above}
 use Rattle.gurtheddu.specs.Coded.{coded_run, run_update, run_sweep}

@@ -8,9 +8,9 @@ use mathlib.Core.List.{List, ◌++◌, append_assoc}
 use Prim.Native.Nat.{ℕ, zero, suc, ◌+◌, ◌*◌, ◌-◌, ◌<◌, ◌≤◌}
 use native.Mathlib.Omega.{arith}
 use lib.Dec.{eqb, ltb, leb}
-use lib.ListN.{length, get_or, take, drop, length-append}
+use lib.ListN.{length, take, drop, length-append}
 use lib.Seq.{sets, sets-eq, length-sets, take_at, drop_at, length-take-le, get_or-append-add}
-use borrow.Author.Tests.{eqb-true, eqb-false, ltb-true, lt-ltb, ne_eqb}
+use borrow.Author.Tests.{eqb-true, eqb-false, ltb-true, ne_eqb}
 use Rattle.base.specs.Outcome.{pick}
 use Rattle.base.specs.Table.{at}
 use Rattle.base.proofs.Table.{by_test}
@@ -24,8 +24,8 @@ use Rattle.updates.specs.One.{step_one}
 use Rattle.queries.specs.One.{step_one as queryOne}
 use Rattle.update_run.specs.Run.{run_one}
 use Rattle.query_run.specs.Run.{run_one as runQuery}
-use Rattle.codes.specs.Updaters.{code_stage, code_updater, stage_in, names_stage, updater_in, with_updater}
-use Rattle.codes.specs.Queries.{code_kind, code_scan, code_query, scan_in, kind_in, names_kind, names_query, query_in, with_query}
+use Rattle.codes.specs.Updaters.{code_updater, names_stage, updater_in, with_updater}
+use Rattle.codes.specs.Queries.{code_query, scan_in, kind_in, names_kind, names_query, query_in, with_query}
 use Rattle.codes.proofs.Updaters.{updater_same, stage_named}
 use Rattle.codes.proofs.Queries.{query_same, scan_named, kind_named}
 use Rattle.gurtheddu.specs.Coded.{coded_run, run_update, run_sweep}

@@ -1,5 +1,6 @@
 // The calls of range queries (document 01: sweep start, sweep steps in a row; document 02, request b: reading the list, clearing the lane).
 ghost use Rattle.tables.specs.Promise.{OnGrid};
+ghost use Rattle.base.specs.Lent.{seen, lent};
 ghost use Rattle.codes.specs.Queries.{rectangle_of};
 ghost use Rattle.gurtheddu.specs.Promise.{StartsSweep, RunsSweep, ReadsFrom, ClearsLane};
 
@@ -19,8 +20,7 @@ use regions::scan::first_cell;
 // Starts a query: its kind of question (0 touching, 1 within, 2 centre), the lower and the upper corner of its
 // rectangle, and its radius, which centre does not look at. Gives 0, or is refused with 1, 12 (the lane's numbers, or
 // the kind, name nothing), 2, 5, 6, 32 or 8.
-#[unsafe(no_mangle)]
-pub extern "C" fn gurtheddu_query_start(
+pub fn gurtheddu_query_start(
     queries: &mut [u32; 52],
     lane: u32,
     kind: u32,
@@ -32,7 +32,7 @@ pub extern "C" fn gurtheddu_query_start(
     words: &mut [u32; 16898],
     times: &[i32; 2048],
 ) -> u32
-    ensures { OnGrid words times (StartsSweep queries lane kind (rectangle_of x0 y0 x1 y1) radius result) }
+    ensures { OnGrid (lent words) (seen times) (StartsSweep (lent queries) lane kind (rectangle_of x0 y0 x1 y1) radius result) }
 {
     if lane >= QUERY_COUNT {
         return NO_SUCH_LANE;
@@ -64,8 +64,7 @@ pub extern "C" fn gurtheddu_query_start(
 
 // So many steps of a query, ended by the first number that is not 0. Gives 0 if all of them did, else the first other number: 20 or 22, or is refused
 // with 1, 12 (the lane's numbers name nothing), 3, 9 or 12 (a stored number); and how many steps were carried out.
-#[unsafe(no_mangle)]
-pub extern "C" fn gurtheddu_query_run(
+pub fn gurtheddu_query_run(
     queries: &mut [u32; 52],
     lane: u32,
     budget: u32,
@@ -73,7 +72,7 @@ pub extern "C" fn gurtheddu_query_run(
     words: &mut [u32; 16898],
     times: &[i32; 2048],
 ) -> u32
-    ensures { OnGrid words times (RunsSweep queries lane budget made result) }
+    ensures { OnGrid (lent words) (seen times) (RunsSweep (lent queries) lane budget (lent made) result) }
 {
     *made = 0;
     if budget == 0 {
@@ -99,8 +98,7 @@ pub extern "C" fn gurtheddu_query_run(
 
 // Hands back the list of a finished query: four numbers for each entry over the front of the caller's list, how many numbers these are, and the steps
 // of the query. Nothing else changes. Gives 0, or is refused with 1, 12 (the lane's numbers name nothing), 3, 10, 11 or 12 (the number of hits).
-#[unsafe(no_mangle)]
-pub extern "C" fn gurtheddu_read(
+pub fn gurtheddu_read(
     queries: &[u32; 52],
     lane: u32,
     out: &mut [u32],
@@ -109,7 +107,7 @@ pub extern "C" fn gurtheddu_read(
     words: &[u32; 16898],
     times: &[i32; 2048],
 ) -> u32
-    ensures { OnGrid words times (ReadsFrom queries lane out steps filled result) }
+    ensures { OnGrid (seen words) (seen times) (ReadsFrom (seen queries) lane (lent out) (lent steps) (lent filled) result) }
 {
     *steps = 0;
     *filled = 0;
@@ -128,14 +126,13 @@ pub extern "C" fn gurtheddu_read(
 }
 
 // Idles the lane of a finished query. Gives 0, or is refused with 1, 12 (the lane's numbers name nothing), 3 or 10.
-#[unsafe(no_mangle)]
-pub extern "C" fn gurtheddu_clear(
+pub fn gurtheddu_clear(
     queries: &mut [u32; 52],
     lane: u32,
     words: &[u32; 16898],
     times: &[i32; 2048],
 ) -> u32
-    ensures { OnGrid words times (ClearsLane queries lane result) }
+    ensures { OnGrid (seen words) (seen times) (ClearsLane (lent queries) lane result) }
 {
     if lane >= QUERY_COUNT {
         return NO_SUCH_LANE;

@@ -1,5 +1,6 @@
 // The calls of updates (document 01: report start, and report steps in a row).
 ghost use Rattle.tables.specs.Promise.{OnGrid};
+ghost use Rattle.base.specs.Lent.{seen, lent};
 ghost use Rattle.gurtheddu.specs.Promise.{StartsUpdate, RunsUpdate};
 
 use base::{CORRUPT, DONE, NO_SUCH_LANE, UPDATER_COUNT};
@@ -10,8 +11,7 @@ use update_run::run_update;
 use updates::start::start_one;
 
 // Starts an update of an object's place and tag. Gives 0, or is refused with 1, 12 (no stage has the lane's number), 2, 4, 5, 31, 7 or 8.
-#[unsafe(no_mangle)]
-pub extern "C" fn gurtheddu_update_start(
+pub fn gurtheddu_update_start(
     updaters: &mut [u32; 80],
     lane: u32,
     oid: u32,
@@ -21,7 +21,7 @@ pub extern "C" fn gurtheddu_update_start(
     words: &mut [u32; 16898],
     times: &[i32; 2048],
 ) -> u32
-    ensures { OnGrid words times (StartsUpdate updaters lane oid x y tag result) }
+    ensures { OnGrid (lent words) (seen times) (StartsUpdate (lent updaters) lane oid x y tag result) }
 {
     if lane >= UPDATER_COUNT {
         return NO_SUCH_LANE;
@@ -42,8 +42,7 @@ pub extern "C" fn gurtheddu_update_start(
 
 // So many steps of an update, ended by the first number that is not 0. Gives 0 if all of them did, else the first other number: 20, 21 or 22, or is
 // refused with 1, 12 (no stage has the lane's number), 3 or 12 (a stored number); and how many steps were carried out.
-#[unsafe(no_mangle)]
-pub extern "C" fn gurtheddu_update_run(
+pub fn gurtheddu_update_run(
     updaters: &mut [u32; 80],
     lane: u32,
     budget: u32,
@@ -51,7 +50,7 @@ pub extern "C" fn gurtheddu_update_run(
     words: &mut [u32; 16898],
     times: &mut [i32; 2048],
 ) -> u32
-    ensures { OnGrid words times (RunsUpdate updaters lane budget made result) }
+    ensures { OnGrid (lent words) (lent times) (RunsUpdate (lent updaters) lane budget (lent made) result) }
 {
     *made = 0;
     if budget == 0 {

@@ -1,5 +1,6 @@
 // The calls of a whole deck: the empty grid (document 01: a fresh deck), and winding the clock back (document 02, request a).
 ghost use Rattle.tables.specs.Promise.{OnGrid};
+ghost use Rattle.base.specs.Lent.{seen, lent};
 ghost use Rattle.gurtheddu.specs.Promise.{ResetsDeck, RewindsDeck};
 
 use base::{CORRUPT, DONE};
@@ -13,14 +14,13 @@ use tables::fill::fill_numbers;
 use updates::lanes::idle_updaters;
 
 // Makes the tables an empty grid and every lane idle. Gives 0.
-#[unsafe(no_mangle)]
-pub extern "C" fn gurtheddu_reset(
+pub fn gurtheddu_reset(
     updaters: &mut [u32; 80],
     queries: &mut [u32; 52],
     words: &mut [u32; 16898],
     times: &mut [i32; 2048],
 ) -> u32
-    ensures { OnGrid words times (ResetsDeck updaters queries result) }
+    ensures { OnGrid (lent words) (lent times) (ResetsDeck (lent updaters) (lent queries) result) }
 {
     let us = idle_updaters();
     let qs = idle_queries();
@@ -34,14 +34,13 @@ pub extern "C" fn gurtheddu_reset(
 }
 
 // Winds every stamp and the clock back. Gives 0, or is refused with 12 (a lane's number is none) or 30 (not at rest). The lanes stay as they are.
-#[unsafe(no_mangle)]
-pub extern "C" fn gurtheddu_rewind(
+pub fn gurtheddu_rewind(
     updaters: &[u32; 80],
     queries: &[u32; 52],
     words: &mut [u32; 16898],
     times: &mut [i32; 2048],
 ) -> u32
-    ensures { OnGrid words times (RewindsDeck updaters queries result) }
+    ensures { OnGrid (lent words) (lent times) (RewindsDeck (seen updaters) (seen queries) result) }
 {
     if !stages_to(updaters, LAST_STAGE) {
         return CORRUPT;

@@ -1,6 +1,6 @@
 -- WHAT A LINE PROMISES, and what the calls that it asks for do, of the tables t as it finds them and t' as it leaves them.
 use Rattle.std.specs.Prelude.{◌≡◌, List, ℕ}
-use Rattle.base.specs.Lent.{Lent, old, new}
+use Rattle.base.specs.Lent.{Lent}
 use Rattle.tables.specs.Tables.{Tables}
 use Rattle.stage.specs.declared.Updater.{Updater}
 use Rattle.query.specs.declared.Query.{Query}
@@ -27,7 +27,7 @@ AnswersQuery q qs r t t' = after t qs (query_by q t qs) ≡ after_of r.number t'
 -- A LINE ABOUT A LIST is answered: number, steps, queries and list are those of its call.
 abbrev pub AnswersList : ListLine → List Query → Lent (List ℕ) → Collected → Tables → Tables → Type 0
 AnswersList w qs out r t t' =
-    list_by w.wish w.lane t qs (old out) ≡ filling_of r.number t' r.queries r.steps r.filled (new out)
+    list_by w.wish w.lane t qs out.old ≡ filling_of r.number t' r.queries r.steps r.filled out.new
 
 -- a number, with no steps and no list
 abbrev pub plain_step : ℕ → List Updater → List Query → LineStep
@@ -36,5 +36,5 @@ plain_step n us qs = record { number = n; steps = 0; filled = 0; updaters = us; 
 -- A LINE of a script is answered: number, steps, list, tables and lanes are those of the call that it asks for.
 abbrev pub Answers : Lent (List ℕ) → Lent (List ℕ) → List Updater → List Query → LineStep → Tables → Tables → Type 0
 Answers line out us qs r t t' =
-    line_step (old line) (grid_of t us qs) (old out)
-    ≡ lined_of r.number r.steps r.filled (grid_of t' r.updaters r.queries) (new out)
+    line_step line.old (grid_of t us qs) out.old
+    ≡ lined_of r.number r.steps r.filled (grid_of t' r.updaters r.queries) out.new

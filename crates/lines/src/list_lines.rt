@@ -1,5 +1,6 @@
 // LINES ABOUT THE LIST OF A FINISHED QUERY (C, L and X), each the call that it asks for. No table changes.
 ghost use Rattle.lines.specs.Promise.{AnswersList};
+ghost use Rattle.base.specs.Lent.{seen, lent};
 ghost use Rattle.tables.specs.Promise.{OnGrid};
 
 use collect::clear::clear;
@@ -16,7 +17,7 @@ pub fn list_line(
     words: &[u32],
     times: &[i32],
 ) -> Collected
-    ensures { OnGrid words times (AnswersList line queries out result) }
+    ensures { OnGrid (seen words) (seen times) (AnswersList line queries (lent out) result) }
 {
     let wish = line.wish;
     let lane = line.lane;

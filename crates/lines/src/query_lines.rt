@@ -1,5 +1,6 @@
 // LINES ABOUT QUERIES (Q, T, W and S), each the call that it asks for.
 ghost use Rattle.std.specs.Prelude.{◌≡◌};
+ghost use Rattle.base.specs.Lent.{seen, lent};
 ghost use Rattle.lines.specs.Line.{asked_of};
 ghost use Rattle.lines.specs.Promise.{AnswersQuery};
 ghost use Rattle.tables.specs.Promise.{OnGrid};
@@ -44,7 +45,7 @@ fn asked_of(q: QueryStart) -> Region
 
 // Starts a query, or does a step of one.
 pub fn query_line(line: QueryLine, queries: [Query; 4], words: &mut [u32], times: &[i32]) -> Swept
-    ensures { OnGrid words times (AnswersQuery line queries result) }
+    ensures { OnGrid (lent words) (seen times) (AnswersQuery line queries result) }
 {
     match line {
         QueryLine::Start(q) => {

@@ -1,5 +1,6 @@
 // ONE LINE of a script on the grid: the call that it asks for, or 13.
 ghost use Rattle.std.specs.Prelude.{◌≡◌};
+ghost use Rattle.base.specs.Lent.{seen, lent};
 ghost use Rattle.lines.specs.Promise.{Answers, plain_step};
 ghost use Rattle.tables.specs.Promise.{OnGrid};
 
@@ -13,7 +14,7 @@ use script::parse::parse;
 use stage::Updater;
 
 // What a line gives: the number of its call (document 01), or 13; for a reading and a collection also the steps of the query and how many numbers of the lent list are filled; and the lanes afterwards.
-#[derive(Drop)]
+#[derive(Clone, Copy)]
 pub struct LineStep {
     pub number: u32,
     pub steps: u32,
@@ -44,7 +45,7 @@ pub fn line_step(
     words: &mut [u32],
     times: &mut [i32],
 ) -> LineStep
-    ensures { OnGrid words times (Answers line out updaters queries result) }
+    ensures { OnGrid (lent words) (lent times) (Answers (seen line) (lent out) updaters queries result) }
 {
     let command = parse(line);
     match command {

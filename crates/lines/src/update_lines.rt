@@ -1,5 +1,6 @@
 // LINES ABOUT UPDATES (R and U), each the call that it asks for.
 ghost use Rattle.lines.specs.Promise.{AnswersUpdate};
+ghost use Rattle.base.specs.Lent.{lent};
 ghost use Rattle.tables.specs.Promise.{OnGrid};
 
 use script::line::UpdateLine;
@@ -15,7 +16,7 @@ pub fn update_line(
     words: &mut [u32],
     times: &mut [i32],
 ) -> Stepped
-    ensures { OnGrid words times (AnswersUpdate line updaters result) }
+    ensures { OnGrid (lent words) (lent times) (AnswersUpdate line updaters result) }
 {
     match line {
         UpdateLine::Start(u) => update_start(

@@ -8,7 +8,7 @@ use Rattle.base.specs.Outcome.{pick}
 use Rattle.regions.specs.declared.region.Region.{Region}
 use Rattle.query.specs.declared.Query.{Query}
 use Rattle.tables.specs.Tables.{Tables, right_lengths}
-use Rattle.calls.specs.Call.{Result, answered, after, after_of, placed}
+use Rattle.calls.specs.Call.{after, after_of, placed}
 use Rattle.calls.proofs.Lane.{past, steps, no_such}
 use Rattle.queries.specs.Query.{idle_query, query_start, query_step}
 use Rattle.queries.specs.Scans.{scan_on}

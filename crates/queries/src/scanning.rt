@@ -1,5 +1,6 @@
 // One step of a query, on the words and the stamps.
 ghost use Rattle.std.specs.Prelude.{◌≡◌, ◌<◌, length};
+ghost use Rattle.base.specs.Lent.{seen, lent};
 ghost use Rattle.queries.specs.Scans.{scan_on};
 ghost use Rattle.tables.specs.Promise.{OnGrid};
 ghost use Rattle.query.specs.Promise.{Progresses};
@@ -13,7 +14,7 @@ use query::{Progress, Query, Scan};
 // Does what a query does next.
 pub fn scan_step(words: &mut [u32], times: &[i32], lane: u32, q: Query) -> Progress
     requires { (length words.old ≡ WORDS) × (length times.now ≡ TIMES) × (lane < 4) }
-    ensures { OnGrid words times (Progresses (λ t. scan_on t lane q q.stage) result) }
+    ensures { OnGrid (lent words) (seen times) (Progresses (λ t. scan_on t lane q q.stage) result) }
 {
     let s = q.stage;
     match s {

@@ -1,5 +1,6 @@
 // The start of a query (document 01: sweep start).
 ghost use Rattle.tables.specs.Promise.{OnGrid};
+ghost use Rattle.base.specs.Lent.{seen, lent};
 ghost use Rattle.queries.specs.Promise.{Starts, StartsOne};
 
 use crate::lanes::{Swept, SweptOne, is_idle};
@@ -22,7 +23,7 @@ pub fn start_one(
     words: &mut [u32],
     times: &[i32],
 ) -> SweptOne
-    ensures { OnGrid words times (StartsOne q lane question result) }
+    ensures { OnGrid (lent words) (seen times) (StartsOne q lane question result) }
 {
     if !right_words(words.len(), times.len()) {
         return SweptOne {
@@ -96,7 +97,7 @@ pub fn query_start(
     words: &mut [u32],
     times: &[i32],
 ) -> Swept
-    ensures { OnGrid words times (Starts queries lane question result) }
+    ensures { OnGrid (lent words) (seen times) (Starts queries lane question result) }
 {
     if lane >= QUERY_COUNT {
         let number = no_lane(words.len(), times.len());

@@ -1,5 +1,6 @@
 // A step of a query (document 01: sweep step).
 ghost use Rattle.queries.specs.Promise.{EndsStep, Steps, StepsOne};
+ghost use Rattle.base.specs.Lent.{seen, lent};
 ghost use Rattle.tables.specs.Promise.{OnGrid};
 
 use crate::lanes::{Swept, SweptOne, is_finished, is_idle, number_of};
@@ -35,7 +36,7 @@ pub fn end_step(q: Query, progress: Progress) -> SweptOne
 
 // One step of the query in a lane, given by value. Gives 0, 20 or 22, or is refused with 12 (lengths), 1, 3, 9, or 12 (a stored number).
 pub fn step_one(q: Query, lane: u32, words: &mut [u32], times: &[i32]) -> SweptOne
-    ensures { OnGrid words times (StepsOne q lane result) }
+    ensures { OnGrid (lent words) (seen times) (StepsOne q lane result) }
 {
     if !right_words(words.len(), times.len()) {
         return SweptOne {
@@ -68,7 +69,7 @@ pub fn step_one(q: Query, lane: u32, words: &mut [u32], times: &[i32]) -> SweptO
 
 // One step of the query in one of the lanes: what `step_one` does there.
 pub fn query_step(queries: [Query; 4], lane: u32, words: &mut [u32], times: &[i32]) -> Swept
-    ensures { OnGrid words times (Steps queries lane result) }
+    ensures { OnGrid (lent words) (seen times) (Steps queries lane result) }
 {
     if lane >= QUERY_COUNT {
         let number = no_lane(words.len(), times.len());

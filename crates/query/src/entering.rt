@@ -1,6 +1,7 @@
 // Entering the next cell of the scan.
 // On the words that hold all tables; their number is the caller's to check.
 ghost use Rattle.std.specs.Prelude.{◌≡◌, length};
+ghost use Rattle.base.specs.Lent.{lent};
 ghost use Rattle.query.specs.On.{enter_free_on, enter_on};
 ghost use Rattle.tables.specs.Promise.{OnWords};
 ghost use Rattle.query.specs.Promise.{Progresses};
@@ -17,7 +18,7 @@ use words::{CELLS, FIRST};
 // Enters a cell that is not locked: passed at once if it is empty, else with a reader more at its first bucket.
 fn enter_free(words: &mut [u32], q: Query, cell: u32) -> Progress
     requires { length words.old ≡ WORDS }
-    ensures { OnWords words (Progresses (λ t. enter_free_on t q cell) result) }
+    ensures { OnWords (lent words) (Progresses (λ t. enter_free_on t q cell) result) }
 {
     if q.steps >= 4294967295 {
         return Progress::Corrupt;
@@ -43,7 +44,7 @@ fn enter_free(words: &mut [u32], q: Query, cell: u32) -> Progress
 // Enters a cell: blocked if it is locked.
 pub fn enter_step(words: &mut [u32], q: Query, cell: u32) -> Progress
     requires { length words.old ≡ WORDS }
-    ensures { OnWords words (Progresses (λ t. enter_on t q cell) result) }
+    ensures { OnWords (lent words) (Progresses (λ t. enter_on t q cell) result) }
 {
     if !is_visited(q.question, cell) {
         return Progress::Corrupt;

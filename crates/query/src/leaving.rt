@@ -1,6 +1,7 @@
 // Leaving a bucket whose slots are read.
 // On the words that hold all tables; their number is the caller's to check.
 ghost use Rattle.std.specs.Prelude.{◌≡◌, ◌<◌, length};
+ghost use Rattle.base.specs.Lent.{lent};
 ghost use Rattle.query.specs.On.{leave_last_on, leave_on};
 ghost use Rattle.tables.specs.Promise.{OnWords};
 ghost use Rattle.query.specs.Promise.{Progresses};
@@ -15,7 +16,7 @@ use words::NEXT;
 // Leaves the last bucket of a chain: the cell is done.
 fn leave_last(words: &mut [u32], q: Query, cell: u32, bucket: u32) -> Progress
     requires { (length words.old ≡ WORDS) × (q.steps < 4294967295) }
-    ensures { OnWords words (Progresses (λ t. leave_last_on t q cell bucket) result) }
+    ensures { OnWords (lent words) (Progresses (λ t. leave_last_on t q cell bucket) result) }
 {
     let onward = after_cell(q.question, cell);
     let Onward::To(stage) = onward else {
@@ -31,7 +32,7 @@ fn leave_last(words: &mut [u32], q: Query, cell: u32, bucket: u32) -> Progress
 // Leaves a bucket: for the next one of its chain, if there is one, with a reader more there and then one less here.
 pub fn leave_step(words: &mut [u32], q: Query, cell: u32, bucket: u32) -> Progress
     requires { length words.old ≡ WORDS }
-    ensures { OnWords words (Progresses (λ t. leave_on t q cell bucket) result) }
+    ensures { OnWords (lent words) (Progresses (λ t. leave_on t q cell bucket) result) }
 {
     if q.steps >= 4294967295 {
         return Progress::Corrupt;

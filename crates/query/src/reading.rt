@@ -7,7 +7,7 @@ ghost use Rattle.query.specs.On.{read_on};
 ghost use Rattle.words.specs.Map.{HITS-SIZE, TIMES, WORDS};
 ghost use Rattle.tables.specs.Promise.{OnGrid};
 ghost use Rattle.query.specs.Promise.{Progresses};
-ghost use Rattle.base.specs.Lent.{new, old};
+ghost use Rattle.base.specs.Lent.{seen, lent};
 
 use crate::moving::one_more;
 use crate::{Progress, Query, Scan};
@@ -31,7 +31,7 @@ fn can_compare(t: Seen, stamp: u32) -> bool
 // Notes a tuple if it is inside and the query may see it.
 fn consider_tuple(list: &mut [u32], lane: u32, q: Query, t: Seen) -> Noted
     requires { (length list.old ≡ HITS-SIZE) × (lane < 4) }
-    ensures { Notes (λ h. consider h lane q t) result (hits_at (old list)) (hits_at (new list)) }
+    ensures { Notes (λ h. consider h lane q t) result (hits_at list.old) (hits_at list.new) }
 {
     if !is_inside(q.question, t.x, t.y) {
         return Noted::Size(q.hits);
@@ -55,7 +55,7 @@ pub fn read_step(
     s: Standing,
 ) -> Progress
     requires { (length words.old ≡ WORDS) × (length times.now ≡ TIMES) × (lane < 4) }
-    ensures { OnGrid words times (Progresses (λ t. read_on t lane q cell s) result) }
+    ensures { OnGrid (lent words) (seen times) (Progresses (λ t. read_on t lane q cell s) result) }
 {
     if q.steps >= 4294967295 {
         return Progress::Corrupt;

@@ -1,5 +1,8 @@
 // A run of a query: so many steps of one lane under one check, ended by the first number that is not 0. The lane is in locals.
+#![tactic(auto)]
+
 ghost use Rattle.std.specs.Prelude.{◌≡◌, false, ◌<◌, length};
+ghost use Rattle.base.specs.Lent.{seen, lent};
 ghost use Rattle.words.specs.Map.{TIMES, WORDS};
 ghost use Rattle.queries.specs.Query.{is_idle, is_finished};
 ghost use Rattle.tables.specs.Promise.{OnGrid};
@@ -14,7 +17,7 @@ use query::Query;
 use tables::lengths::right_words;
 
 // The number that a run gives, how many steps it carried out, and the lane afterwards.
-#[derive(Drop)]
+#[derive(Clone, Copy)]
 pub struct Ran {
     pub number: u32,
     pub made: u32,
@@ -24,7 +27,7 @@ pub struct Ran {
 // Steps a query that is neither idle nor finished, up to the first number that is not 0.
 fn run_on(q: Query, lane: u32, words: &mut [u32], times: &[i32], budget: u32) -> Ran
     requires { (length words.old ≡ WORDS) × (length times.now ≡ TIMES) × (lane < 4) × (is_idle q.stage ≡ false) × (is_finished q.stage ≡ false) }
-    ensures { OnGrid words times (Runs q lane budget result) }
+    ensures { OnGrid (lent words) (seen times) (Runs q lane budget result) }
 {
     let mut query = q;
     let mut made = 0;
@@ -54,7 +57,7 @@ fn run_on(q: Query, lane: u32, words: &mut [u32], times: &[i32], budget: u32) ->
 // So many steps of a query in a lane, given by value. Gives 0 if all of them did, else the first other number: BLOCKED or 22, or 12 (lengths), 1, 3, 9,
 // or 12 (a stored number); and how many of them were carried out.
 pub fn run_query(q: Query, lane: u32, words: &mut [u32], times: &[i32], budget: u32) -> Ran
-    ensures { OnGrid words times (Runs q lane budget result) }
+    ensures { OnGrid (lent words) (seen times) (Runs q lane budget result) }
 {
     if budget == 0 {
         return Ran {

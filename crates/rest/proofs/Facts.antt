@@ -1,6 +1,6 @@
 -- What 'at rest' says of each lane, both ways.
 use mathlib.Core.Path.{◌≡◌, refl}
-use mathlib.Core.Bool.{Bool, true, false, ◌&&◌}
+use mathlib.Core.Bool.{true}
 use mathlib.Core.List.{List}
 use lib.ListN.{get_or}
 use Rattle.base.proofs.Table.{clash}

@@ -1,5 +1,7 @@
 // Whether the grid is at rest (document 02): no update is under way, and every query lane is idle.
 // A query that has finished and is not collected is not at rest.
+#![tactic(auto)]
+
 ghost use Rattle.std.specs.Prelude.{◌≡◌};
 ghost use Rattle.rest.specs.Rest.{updaters_idle, queries_idle, is_at_rest};
 

@@ -1,5 +1,5 @@
 -- One law for each return of `rewind`, over variable tables; and what the two stores leave of the tables that were lent.
-use mathlib.Core.Path.{◌≡◌, refl, ◌∙◌}
+use mathlib.Core.Path.{◌≡◌}
 use mathlib.Core.Bool.{true, false}
 use mathlib.Core.List.{List, map}
 use Prim.Native.Nat.{ℕ}

@@ -1,6 +1,6 @@
 -- WINDING THE CLOCK BACK (document 02, request a): in every slot of the 512 buckets, counted or not, a stamp above zero
 -- becomes 1 and one below zero −1; a clock above 1 becomes 1. Nothing else is touched, and no stored number is refused.
-use Rattle.std.specs.Prelude.{Bool, List, map, ℕ, zero, suc, ltb, ℤ, pos, negsuc}
+use Rattle.std.specs.Prelude.{List, map, ℕ, zero, suc, ltb, ℤ, pos, negsuc}
 use Rattle.base.specs.Numbers.{DONE, CORRUPT, BUSY}
 use Rattle.base.specs.Outcome.{pick}
 use Rattle.stage.specs.declared.Updater.{Updater}

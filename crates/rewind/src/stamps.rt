@@ -1,6 +1,5 @@
 // The stamps wound back.
 ghost use Rattle.std.specs.Prelude.{◌≡◌, map};
-ghost use Rattle.base.specs.Lent.{new, old};
 ghost use Rattle.rewind.specs.Rewind.{wound_stamp};
 
 fn wind_stamp(t: i32) -> i32
@@ -17,7 +16,7 @@ fn wind_stamp(t: i32) -> i32
 
 // Every stamp above zero becomes 1, every one below zero -1, whether its slot is counted or not.
 pub fn wind_stamps(times: &mut [i32])
-    ensures { new times ≡ map wound_stamp (old times) }
+    ensures { times.new ≡ map wound_stamp times.old }
 {
     let mut i = 0;
     while i < times.len() {

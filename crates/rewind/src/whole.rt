@@ -1,5 +1,6 @@
 // A REWIND, the public operation.
 ghost use Rattle.tables.specs.Promise.{OnGrid};
+ghost use Rattle.base.specs.Lent.{lent};
 ghost use Rattle.rewind.specs.Promise.{Rewinds};
 
 use crate::clock::wind_clock;
@@ -19,7 +20,7 @@ pub fn rewind(
     words: &mut [u32],
     times: &mut [i32],
 ) -> u32
-    ensures { OnGrid words times (Rewinds updaters queries result) }
+    ensures { OnGrid (lent words) (lent times) (Rewinds updaters queries result) }
 {
     if !right_words(words.len(), times.len()) {
         return CORRUPT;

@@ -10,7 +10,7 @@ use Rattle.base.proofs.Step.{lifted}
 use Rattle.words.specs.Map.{WORDS}
 use Rattle.words.specs.Words.{cells_in, index_in, put_cells, put_index}
 use Rattle.layout.specs.declared.place.Place.{Place}
-use Rattle.index.specs.Index.{Index, index_at, with_lock}
+use Rattle.index.specs.Index.{index_at, with_lock}
 use Rattle.tables.specs.Tables.{Tables, with_cells, with_index, with_locks}
 use Rattle.tables.specs.Grid.{grid}
 use Rattle.tables.proofs.Grid.{put_cells_lem, put_index_lem}

@@ -1,5 +1,8 @@
 // One stage of an update, on the words that hold all tables, and the stamps.
+#![tactic(auto)]
+
 ghost use Rattle.std.specs.Prelude.{◌≡◌, length};
+ghost use Rattle.base.specs.Lent.{lent};
 ghost use Rattle.turns.specs.Stages.{stage_on};
 ghost use Rattle.tables.specs.Promise.{OnGrid};
 ghost use Rattle.words.specs.Map.{TIMES, WORDS};
@@ -18,7 +21,7 @@ use write::{make_room_stage, write_new};
 // Does the stage that an updater is at. The owner of the locks it takes is 1 + its number.
 pub fn step_stage(words: &mut [u32], times: &mut [i32], owner: u32, u: Updater) -> Turn
     requires { (length words.old ≡ WORDS) × (length times.old ≡ TIMES) }
-    ensures { OnGrid words times (Turns (λ t. stage_on t owner u u.stage) result) }
+    ensures { OnGrid (lent words) (lent times) (Turns (λ t. stage_on t owner u u.stage) result) }
 {
     let s = u.stage;
     match s {

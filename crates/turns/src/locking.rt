@@ -1,5 +1,6 @@
 // Stages 1, 2 and 14 of an update: each works on one part of the words and is lent it.
 ghost use Rattle.std.specs.Prelude.{◌≡◌, length};
+ghost use Rattle.base.specs.Lent.{lent};
 ghost use Rattle.stage.specs.declared.Stage.TheVariants.{TakeObject, LockCell, ReleaseObject};
 ghost use Rattle.turns.specs.Stages.{stage_on};
 ghost use Rattle.tables.specs.Promise.{OnWords};
@@ -14,7 +15,7 @@ use words::{CELLS, FIRST, HITS, INDEX};
 // stage 1
 pub fn take_in(words: &mut [u32], owner: u32, u: Updater) -> Turn
     requires { length words.old ≡ WORDS }
-    ensures { OnWords words (Turns (λ t. stage_on t owner u TakeObject) result) }
+    ensures { OnWords (lent words) (Turns (λ t. stage_on t owner u TakeObject) result) }
 {
     take_object(&mut words[INDEX..HITS], u.oid, owner)
 }
@@ -22,7 +23,7 @@ pub fn take_in(words: &mut [u32], owner: u32, u: Updater) -> Turn
 // stage 2
 pub fn cell_in(words: &mut [u32], owner: u32, u: Updater, p: Place) -> Turn
     requires { length words.old ≡ WORDS }
-    ensures { OnWords words (Turns (λ t. stage_on t owner u (LockCell p)) result) }
+    ensures { OnWords (lent words) (Turns (λ t. stage_on t owner u (LockCell p)) result) }
 {
     lock_cell(&mut words[CELLS..FIRST], p, owner)
 }
@@ -30,7 +31,7 @@ pub fn cell_in(words: &mut [u32], owner: u32, u: Updater, p: Place) -> Turn
 // stage 14
 pub fn release_in(words: &mut [u32], owner: u32, u: Updater) -> Turn
     requires { length words.old ≡ WORDS }
-    ensures { OnWords words (Turns (λ t. stage_on t owner u ReleaseObject) result) }
+    ensures { OnWords (lent words) (Turns (λ t. stage_on t owner u ReleaseObject) result) }
 {
     release_object(&mut words[INDEX..HITS], u.oid)
 }

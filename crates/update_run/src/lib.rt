@@ -1,5 +1,8 @@
 // A run of an update: so many steps of one lane under one check, ended by the first number that is not 0. The lane is in locals.
+#![tactic(auto)]
+
 ghost use Rattle.std.specs.Prelude.{◌≡◌, false, ◌<◌, length};
+ghost use Rattle.base.specs.Lent.{lent};
 ghost use Rattle.words.specs.Map.{TIMES, WORDS};
 ghost use Rattle.stage.specs.Turn.{is_idle};
 ghost use Rattle.tables.specs.Promise.{OnGrid};
@@ -14,7 +17,7 @@ use updates::lanes::is_idle;
 use updates::step::end_step;
 
 // The number that a run gives, how many steps it carried out, and the lane afterwards.
-#[derive(Drop)]
+#[derive(Clone, Copy)]
 pub struct Ran {
     pub number: u32,
     pub made: u32,
@@ -24,7 +27,7 @@ pub struct Ran {
 // Steps an update that is not idle, up to the first number that is not 0.
 fn run_on(u: Updater, lane: u32, words: &mut [u32], times: &mut [i32], budget: u32) -> Ran
     requires { (length words.old ≡ WORDS) × (length times.old ≡ TIMES) × (lane < 8) × (is_idle u.stage ≡ false) }
-    ensures { OnGrid words times (Runs u lane budget result) }
+    ensures { OnGrid (lent words) (lent times) (Runs u lane budget result) }
 {
     let mut updater = u;
     let mut made = 0;
@@ -54,7 +57,7 @@ fn run_on(u: Updater, lane: u32, words: &mut [u32], times: &mut [i32], budget: u
 // So many steps of an update in a lane, given by value. Gives 0 if all of them did, else the first other number: BLOCKED, 21 or 22, or 12 (lengths), 1, 3,
 // or 12 (a stored number); and how many of them were carried out.
 pub fn run_update(u: Updater, lane: u32, words: &mut [u32], times: &mut [i32], budget: u32) -> Ran
-    ensures { OnGrid words times (Runs u lane budget result) }
+    ensures { OnGrid (lent words) (lent times) (Runs u lane budget result) }
 {
     if budget == 0 {
         return Ran {

@@ -1,17 +1,14 @@
 -- THE CALLS OVER ALL LANES ARE THOSE IN ONE: `update_start` and `update_step` are `start_one` and `step_one` in the lane that they name, put among the others.
-use mathlib.Core.Path.{◌≡◌, refl, ap, ◌∙◌}
-use mathlib.Core.Bool.{not}
+use mathlib.Core.Path.{◌≡◌, refl}
 use mathlib.Core.List.{List}
 use Prim.Native.Nat.{ℕ, suc, ◌≤◌}
-use lib.Dec.{eqb, ltb}
-use lib.ListN.{get_or, set}
+use lib.ListN.{get_or}
 use borrow.Author.Tests.{le-ltb}
 use Rattle.base.specs.Outcome.{Outcome, corrupt, blocked, done, pick}
 use Rattle.index.specs.Index.{Index}
-use Rattle.stage.specs.Turn.{is_idle}
 use Rattle.stage.specs.declared.Updater.{Updater}
 use Rattle.tables.specs.Tables.{Tables, right_lengths}
-use Rattle.calls.specs.Call.{Result, after, after_of, unless, placed}
+use Rattle.calls.specs.Call.{after, after_of, placed}
 use Rattle.calls.proofs.Lane.{stays, past, steps, no_such}
 use Rattle.turns.specs.Stages.{stage_on}
 use Rattle.updates.specs.Update.{idle_updater, with_stage, update_start, update_step, started}

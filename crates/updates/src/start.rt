@@ -9,7 +9,7 @@ ghost use Rattle.base.specs.Promise.{ChangesIn};
 ghost use Rattle.tables.specs.Promise.{OnGrid, OnWords};
 ghost use Rattle.updates.specs.Promise.{Starts, StartsOne};
 ghost use Rattle.words.specs.Map.{WORDS};
-ghost use Rattle.base.specs.Lent.{old};
+ghost use Rattle.base.specs.Lent.{seen, lent};
 
 use crate::lanes::{Stepped, SteppedOne, is_idle};
 use base::{
@@ -27,7 +27,7 @@ use words::{CLOCK, HITS, INDEX, LOCKS};
 // Whether an object may be reported, whose search ended there: it is known, or fewer than 256 are.
 fn has_room(words: &[u32], s: Search) -> bool
     requires { length words.now ≡ WORDS }
-    ensures { (ts : List ℤ) → search_has_room s (grid (old words) ts).index.oid ≡ result }
+    ensures { (ts : List ℤ) → search_has_room s (grid words.now ts).index.oid ≡ result }
 {
     let Search::Empty(_) = s else {
         return true;
@@ -38,7 +38,7 @@ fn has_room(words: &[u32], s: Search) -> bool
 // Enters an object where its search ended; leaves a known one as it is.
 fn enter_there(words: &mut [u32], s: Search, oid: u32) -> Change
     requires { (length words.old ≡ WORDS) × ((ts : List ℤ) → search (grid words.old ts).index.oid oid ≡ s) }
-    ensures { OnWords words (ChangesIn with_index (λ t. enter t.index oid) result) }
+    ensures { OnWords (lent words) (ChangesIn with_index (λ t. enter t.index oid) result) }
 {
     enter_at(&mut words[INDEX..HITS], s, oid)
 }
@@ -54,7 +54,7 @@ pub fn start_one(
     words: &mut [u32],
     times: &[i32],
 ) -> SteppedOne
-    ensures { OnGrid words times (StartsOne u lane oid x y tag result) }
+    ensures { OnGrid (lent words) (seen times) (StartsOne u lane oid x y tag result) }
 {
     if !right_words(words.len(), times.len()) {
         return SteppedOne {
@@ -138,7 +138,7 @@ pub fn update_start(
     words: &mut [u32],
     times: &[i32],
 ) -> Stepped
-    ensures { OnGrid words times (Starts updaters lane oid x y tag result) }
+    ensures { OnGrid (lent words) (seen times) (Starts updaters lane oid x y tag result) }
 {
     if lane >= UPDATER_COUNT {
         let number = no_lane(words.len(), times.len());

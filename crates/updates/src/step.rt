@@ -1,5 +1,6 @@
 // A step of an update (document 01: report step).
 ghost use Rattle.std.specs.Prelude.{◌≡◌};
+ghost use Rattle.base.specs.Lent.{lent};
 ghost use Rattle.updates.specs.Update.{with_stage};
 ghost use Rattle.updates.specs.Promise.{EndsTurn, Steps, StepsOne};
 ghost use Rattle.tables.specs.Promise.{OnGrid};
@@ -46,7 +47,7 @@ pub fn end_step(u: Updater, turn: Turn) -> SteppedOne
 
 // One stage of the update in a lane, given by value. Gives 0, 20, 21 or 22, or is refused with 12 (lengths), 1, 3, or 12 (a stored number).
 pub fn step_one(u: Updater, lane: u32, words: &mut [u32], times: &mut [i32]) -> SteppedOne
-    ensures { OnGrid words times (StepsOne u lane result) }
+    ensures { OnGrid (lent words) (lent times) (StepsOne u lane result) }
 {
     if !right_words(words.len(), times.len()) {
         return SteppedOne {
@@ -78,7 +79,7 @@ pub fn update_step(
     words: &mut [u32],
     times: &mut [i32],
 ) -> Stepped
-    ensures { OnGrid words times (Steps updaters lane result) }
+    ensures { OnGrid (lent words) (lent times) (Steps updaters lane result) }
 {
     if lane >= UPDATER_COUNT {
         let number = no_lane(words.len(), times.len());

@@ -1,6 +1,9 @@
 // Stages 9 and 10 of an update (document 01: the stages of a report): room is made in the new cell, and the tuple is written there.
 // On the words that hold all tables; their number is the caller's to check. The clock is stored last, when nothing can refuse.
+#![tactic(auto)]
+
 ghost use Rattle.std.specs.Prelude.{◌≡◌, length};
+ghost use Rattle.base.specs.Lent.{lent};
 ghost use Rattle.write.specs.On.{stage9_on, stage10_on};
 ghost use Rattle.tables.specs.Promise.{OnGrid, OnWords};
 ghost use Rattle.words.specs.Map.{TIMES, WORDS};
@@ -15,7 +18,7 @@ use words::CLOCK;
 // stage 9: the new cell gets room for a tuple.
 pub fn make_room_stage(words: &mut [u32], x: u32, y: u32) -> Turn
     requires { length words.old ≡ WORDS }
-    ensures { OnWords words (Turns (λ t. stage9_on t x y) result) }
+    ensures { OnWords (lent words) (Turns (λ t. stage9_on t x y) result) }
 {
     if !on_grid(x, y) {
         return Turn::Corrupt;
@@ -27,7 +30,7 @@ pub fn make_room_stage(words: &mut [u32], x: u32, y: u32) -> Turn
 // stage 10: the tuple is written with a new stamp, and goes uncounted yet.
 pub fn write_new(words: &mut [u32], times: &mut [i32], oid: u32, x: u32, y: u32, tag: u32) -> Turn
     requires { (length words.old ≡ WORDS) × (length times.old ≡ TIMES) }
-    ensures { OnGrid words times (Turns (λ t. stage10_on t oid x y tag) result) }
+    ensures { OnGrid (lent words) (lent times) (Turns (λ t. stage10_on t oid x y tag) result) }
 {
     if !on_grid(x, y) {
         return Turn::Corrupt;

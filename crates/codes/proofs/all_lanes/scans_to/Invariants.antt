@@ -1,0 +1,19 @@
+-- scans_to answers `scans_to`. The loop's invariant: no number passed is above the last one. The measure is how many are left.
+use mathlib.Core.Path.{◌≡◌}
+use mathlib.Core.Bool.{Bool, true}
+use mathlib.Core.List.{List}
+use Prim.Native.Nat.{ℕ, ◌-◌, ◌≤◌}
+use lib.Dec.{leb}
+use Rattle.rest.specs.Rest.{all_below}
+use Rattle.codes.specs.Queries.{scan_in}
+use Rattle.codes.proofs.all_lanes.scans_to.Given as goal
+
+-- the number of lane i is not above the last one
+abbrev pub up_to : List ℕ → ℕ → ℕ → Bool
+up_to ns last i = leb (scan_in ns i) last
+
+abbrev pub invariant-loop-i : goal.invariant-loop-i
+invariant-loop-i l = (l.i ≤ 4) × (all_below l.i (up_to l.lanes l.last) ≡ true)
+
+abbrev pub decreases-loop-i : goal.decreases-loop-i
+decreases-loop-i l = 4 - l.i

@@ -1,0 +1,21 @@
+-- clear does what clear_one does in its lane: the laws of Lane.antt.
+use mathlib.Core.Path.{ap, ◌∙◌}
+use mathlib.Core.Bool.{Bool}
+use Rattle.base.specs.Outcome.{pick}
+use Rattle.tables.specs.Grid.{grid}
+use Rattle.tables.proofs.Grid.{grid_lengths}
+use Rattle.calls.specs.Call.{placed}
+use Rattle.collect.proofs.Lane.{clear_in, clear_none}
+use Rattle.collect.proofs.clear.clear.Goals as goal
+
+pub returns-then-lane-ge-QUERY_COUNT : goal.returns-then-lane-ge-QUERY_COUNT
+returns-then-lane-ge-QUERY_COUNT c =
+    let w = c.args.words.now in
+    let ts = c.args.times.now in
+    clear_none (grid w ts) c.args.queries c.args.lane c.if-lane-ge-QUERY_COUNT.true _
+    (c.no_lane-number.ensures ∙ ap (λ (b : Bool). pick b 1 12) (grid_lengths w ts))
+
+pub returns : goal.returns
+returns c =
+    clear_in (grid c.args.words.now c.args.times.now) c.args.queries c.args.lane
+    ∙ ap (placed c.args.queries c.args.lane) c.clear_one-one.ensures

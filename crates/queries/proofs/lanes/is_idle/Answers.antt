@@ -1,0 +1,12 @@
+-- is_idle computes `is_idle`: the idle case, and any other.
+use mathlib.Core.Path.{sym}
+use Rattle.queries.specs.Query.{is_idle}
+use Rattle.queries.proofs.Cases.{busy}
+use Rattle.queries.proofs.lanes.is_idle.Goals as goal
+
+pub returns-in-Idle : goal.returns-in-Idle
+unfolding is_idle
+returns-in-Idle c = rw c.in-Idle.is
+
+pub returns : goal.returns
+returns c = sym (busy _ c.in_default.not-Idle)
