@@ -4,15 +4,14 @@
 use mathlib.Core.Path.{◌≡◌, refl, sym, ap, subst, ◌∙◌}
 use mathlib.Core.Logic.{◌≢◌}
 use mathlib.Core.Bool.{Bool, true, false, not}
-use mathlib.Core.Option.{some}
 use mathlib.Core.List.{List, []}
-use Prim.Native.Nat.{ℕ, suc, ◌+◌, ◌-◌, ◌*◌, ◌/◌, ◌%◌, ◌<◌, ◌≤◌}
+use Prim.Native.Nat.{ℕ, suc, ◌+◌, ◌*◌, ◌/◌, ◌%◌, ◌<◌, ◌≤◌}
 use native.Mathlib.Omega.{arith}
 use lib.Dec.{T, ltb, leb, eqb}
-use lib.IntN.{ℤ, nat_abs}
-use lib.ListN.{length, get_or, set}
+use lib.IntN.{nat_abs}
+use lib.ListN.{get_or, set}
 use lib.Seq.{get_or-set_same, get_or-set_other}
-use borrow.Author.Tests.{ltb-true, ltb-false, lt-ltb, le-ltb}
+use borrow.Author.Tests.{ltb-true, lt-ltb}
 use Rattle.base.specs.Outcome.{Outcome, corrupt, blocked, done}
 use Rattle.base.specs.Step.{Step}
 use Rattle.base.proofs.Table.{at_or, by_test, clash}
@@ -29,7 +28,7 @@ use Rattle.stage.specs.declared.Stage.{Stage}
 use Rattle.stage.specs.declared.Stage.TheVariants.{TakeObject}
 use Rattle.stage.specs.declared.Updater.{Updater}
 use Rattle.query.specs.declared.Scan.{Scan}
-use Rattle.query.specs.declared.Scan.TheVariants.{Idle, Enter}
+use Rattle.query.specs.declared.Scan.TheVariants.{Idle}
 use Rattle.query.specs.declared.Query.{Query}
 use Rattle.tables.specs.Tables.{Tables, with_index, with_clock, right_lengths}
 use Rattle.calls.specs.Call.{Result, refused, answered, After, after, unless, stepped}

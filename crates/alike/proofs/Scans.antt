@@ -1,36 +1,35 @@
 -- Every step of a query goes alike on such tables, where its stamps are one of the pairs: entering and leaving read
 -- no stamp; what is read tells both the same.
 use mathlib.Core.Path.{◌≡◌, refl, sym, ap, ◌∙◌}
-use mathlib.Core.Bool.{Bool, true, false, not, ◌||◌, ◌&&◌}
+use mathlib.Core.Bool.{Bool, true, false, not}
 use mathlib.Core.Option.{Option, none, some}
 use mathlib.Core.List.{List}
-use Prim.Native.Nat.{ℕ, suc, ◌+◌, ◌-◌, ◌*◌, ◌<◌, ◌≤◌}
+use Prim.Native.Nat.{ℕ, suc, ◌-◌, ◌*◌}
 use lib.Dec.{eqb, ltb}
 use lib.IntN.{ℤ, pos, negsuc}
-use lib.ListN.{get_or}
-use Rattle.base.specs.Outcome.{Outcome, corrupt, done, need, pick, and_then}
-use Rattle.base.specs.Step.{Step, step_of, lift}
+use Rattle.base.specs.Outcome.{Outcome, need, pick}
+use Rattle.base.specs.Step.{Step, lift}
 use Rattle.base.specs.Table.{at}
 use Rattle.base.proofs.Table.{clash}
 use Rattle.regions.specs.Region.{proper, inside, visited}
 use Rattle.locks.specs.Lock.{look}
-use Rattle.slots.specs.Stamp.{stamp_of, stamp_range}
-use Rattle.slots.specs.Tuple.{Tuples, Tuple, slot_at, tuple_in, need_slot, seen, read, seen_by}
+use Rattle.slots.specs.Stamp.{stamp_of}
+use Rattle.slots.specs.Tuple.{Tuple, slot_at, need_slot, seen, read, seen_by}
 use Rattle.slots.specs.declared.tuple.Seen.{Seen}
 use Rattle.slots.specs.declared.stamp.Stamp.TheVariants.{Never, Current, Deleted}
 use Rattle.readers.specs.Reader.{add_reader, take_reader, leave_for}
 use Rattle.readers.specs.declared.Standing.{Standing}
-use Rattle.hits.specs.Hits.{Hits, Listing, listing_of, look_from, enlist, note}
-use Rattle.query.specs.Scan.{moved, counted, after_cell, enter_free, enter_step, leave_last, leave_step, comparable}
-use Rattle.query.specs.Scan.{consider, read_step, standing_of}
+use Rattle.hits.specs.Hits.{Hits, Listing, look_from, enlist, note}
+use Rattle.query.specs.Scan.{counted, after_cell, enter_free, enter_step, leave_last, leave_step, comparable}
+use Rattle.query.specs.Scan.{consider, read_step}
 use Rattle.query.specs.declared.Scan.{Scan}
 use Rattle.query.specs.declared.Scan.TheVariants.{Idle, Enter, Read, Finished}
 use Rattle.query.specs.declared.Query.{Query}
 use Rattle.tables.specs.Tables.{Tables, with_readers, with_hits}
 use Rattle.queries.specs.Scans.{scan_on}
-use Rattle.calls.proofs.Meet.{Meet, both_blocked, both_done, left_refused, right_refused, Steps, meet_need, meet_so}
+use Rattle.calls.proofs.Meet.{Meet, both_done, left_refused, right_refused, Steps, meet_need}
 use Rattle.calls.proofs.Meet.{meet_pick, meet_then, meet_same, meet_lift}
-use Rattle.alike.specs.Alike.{stands, stood, tells, retimed, stamp_at, Alike, restamped}
+use Rattle.alike.specs.Alike.{stood, tells, retimed, stamp_at, Alike, restamped}
 use Rattle.alike.proofs.Like.{stood_pos}
 
 -- ---- noting does not look at the time

@@ -2,29 +2,27 @@
 -- is refused.
 -- Most stages read no stamp: they are the same step on two sets of tables. Stages 4, 7, 8, 10 and 13 copy, compare or
 -- draw one.
-use mathlib.Core.Path.{◌≡◌, refl, sym, ap, ◌∙◌}
-use mathlib.Core.Bool.{Bool, true, false}
+use mathlib.Core.Path.{◌≡◌, refl, ap, ◌∙◌}
+use mathlib.Core.Bool.{Bool, true}
 use mathlib.Core.Option.{Option, none, some}
 use mathlib.Core.List.{List}
-use Prim.Native.Nat.{ℕ, suc, ◌+◌, ◌*◌, ◌<◌, ◌≤◌}
+use Prim.Native.Nat.{ℕ, ◌+◌, ◌<◌}
 use native.Mathlib.Omega.{arith}
 use lib.Dec.{eqb, ltb}
-use lib.IntN.{ℤ, pos, negsuc, neg_ℤ}
+use lib.IntN.{ℤ}
 use lib.ListN.{length, set, length-set}
 use borrow.Author.Tests.{ltb-true}
-use Rattle.base.specs.Outcome.{Outcome, corrupt, done, need, pick, and_then}
-use Rattle.base.specs.Step.{Step, step_of, lift}
+use Rattle.base.specs.Outcome.{Outcome, done, and_then}
 use Rattle.layout.specs.Place.{on_grid, cell_of}
 use Rattle.layout.specs.declared.place.Place.{Place}
-use Rattle.slots.specs.Tuple.{Tuples, tuples_of, slot_at, tuple_in, put_tuple, need_slot, copy, overwrite, delete, sign}
-use Rattle.slots.specs.Tuple.{sign_of}
-use Rattle.slots.specs.Stamp.{stamp_of, stamp_range}
+use Rattle.slots.specs.Tuple.{Tuples, slot_at, need_slot, copy, overwrite, delete, sign}
+use Rattle.slots.specs.Stamp.{stamp_range}
 use Rattle.base.specs.Table.{at}
-use Rattle.cells.specs.Chain.{Chains, chains_of, last_in, Writing, write, first_bucket, need_some}
+use Rattle.cells.specs.Chain.{Chains, chains_of, last_in, Writing, write, first_bucket}
 use Rattle.index.specs.Search.{search}
 use Rattle.index.specs.Places.{read_place, erase_place}
 use Rattle.locks.specs.Lock.{take_lock, release}
-use Rattle.stage.specs.Turn.{Move, draw}
+use Rattle.stage.specs.Turn.{Move}
 use Rattle.stage.specs.declared.Stage.{Stage}
 use Rattle.stage.specs.declared.Stage.TheVariants.{Idle, TakeObject, LockCell, LookLast, CopyLast, LowerCount}
 use Rattle.stage.specs.declared.Stage.TheVariants.{ReturnBucket, ErasePlace, ChooseCell, MakeRoom, WriteTuple}
@@ -33,15 +31,15 @@ use Rattle.stage.specs.declared.Updater.{Updater}
 use Rattle.acquire.specs.Acquire.{stage1, stage2, stage3, stage14, Locks, locks_of}
 use Rattle.erase.specs.Erase.{stage4, stage5, stage6, stage7, Erasing, erasing_of, free_cell, correct, correct_moved}
 use Rattle.choose.specs.Choose.{stage8, Placing, placing_of, rewrite, lock_new, choose}
-use Rattle.write.specs.Write.{stage9, stage10, Drawn, drawn_of}
-use Rattle.commit.specs.Commit.{stage11, stage12, stage13, Switching, switching_of, Deleting, deleting_of}
+use Rattle.write.specs.Write.{stage9, stage10, Drawn}
+use Rattle.commit.specs.Commit.{stage11, stage12, stage13, Switching, switching_of, Deleting}
 use Rattle.tables.specs.Tables.{Tables, with_cells, with_count, with_first, with_next, with_tuples, with_times, with_pool}
 use Rattle.tables.specs.Tables.{with_clock, with_entries, with_locks}
 use Rattle.turns.specs.Stages.{stage_on}
-use Rattle.calls.proofs.Meet.{Meet, both_blocked, both_done, left_refused, right_refused, Steps, meet_need, meet_so}
+use Rattle.calls.proofs.Meet.{Meet, both_done, left_refused, Steps, meet_need, meet_so}
 use Rattle.calls.proofs.Meet.{meet_pick, meet_then, meet_entry, meet_draw, meet_same, meet_lift, meet_lift_same}
 use Rattle.calls.proofs.Meet.{steps_same}
-use Rattle.alike.specs.Alike.{Like, retimed, stamp_at, Alike}
+use Rattle.alike.specs.Alike.{Like, retimed, Alike}
 use Rattle.alike.proofs.Like.{like_above, like_flagged, like_set, same_sign}
 
 module _ (O : ℕ → ℕ → Type 0) (t : Tables) (ts : List ℤ) (c : ℕ) (A : Alike O t (retimed t ts c)) (o : ℕ)

@@ -7,12 +7,10 @@ use mathlib.Core.Path.{◌≡◌, refl, ap, ◌∙◌}
 use mathlib.Core.List.{List, [], ◌∷◌}
 use Prim.Native.Nat.{ℕ}
 use native.Mathlib.Omega.{arith}
-use Rattle.hits.specs.Hits.{Hits}
 use Rattle.tables.specs.Tables.{Tables}
-use Rattle.collect.specs.Collect.{entries_from}
 use Rattle.rewind.specs.Rewind.{wound_tables}
 use Rattle.rewind.proofs.Winding.{above_wound, below_wound, map-length, map_at, clock_wound}
-use Rattle.grid.specs.Run.{Grid, Call, rewind, Answer, call, run, answers, empty_grid}
+use Rattle.grid.specs.Run.{Grid, Call, rewind, Answer, call, run, answers}
 use Rattle.query.specs.declared.Query.{Query}
 use Rattle.runs.specs.Rest.{AtRest}
 use Rattle.runs.specs.Sweeps.{query}
@@ -20,7 +18,7 @@ use Rattle.runs.proofs.Every.{Good}
 use Rattle.runs.proofs.Rewound.{wound_grid, wound_good, Rewinding, moving, resting, rewinding}
 use Rattle.runs.proofs.Runs.{call_good, every}
 use Rattle.alike.specs.Alike.{stamp_at, Pair, pair, Both}
-use Rattle.alike.specs.Promise.{NoEight, none_left, and_none, kept, rewound, WoundAlike, listed, WoundLists}
+use Rattle.alike.specs.Promise.{NoEight, and_none, kept, rewound, WoundAlike, WoundLists}
 use Rattle.alike.proofs.Calls.{lock_step}
 
 -- ---- the relation holds of a grid at rest and the same wound back

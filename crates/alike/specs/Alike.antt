@@ -1,6 +1,6 @@
 -- TWO GRIDS THAT DIFFER IN THE SIZES OF STAMPS AND IN THE CLOCK ALONE, so that no query under way can tell them apart.
 -- One is a grid of a run, the other what it would be had its clock been wound back; each call keeps the relation.
-use Rattle.std.specs.Prelude.{◌≡◌, ◌≢◌, Bool, ◌||◌, ◌&&◌, List, [], ◌∷◌, ℕ, ◌<◌, ◌≤◌, ltb, ℤ, pos, nat_abs, get_or, length}
+use Rattle.std.specs.Prelude.{◌≡◌, ◌≢◌, Bool, ◌||◌, ◌&&◌, List, ℕ, ◌<◌, ◌≤◌, ltb, ℤ, pos, nat_abs, get_or, length}
 use Rattle.std.specs.Int.Signed.{lt_z}
 use Rattle.slots.specs.Tuple.{tuples_of}
 use Rattle.tables.specs.Tables.{Tables, tables_of}

@@ -35,7 +35,7 @@ use Rattle.runs.proofs.Runs.{call_good}
 use Rattle.runs.proofs.SimScan.{scanned}
 use Rattle.runs.proofs.Swept.{is_leave, is_read}
 use Rattle.runs.proofs.View.{view}
-use Rattle.cost.specs.Account.{Seen, Event, event_of, Deed, deed, deed_of, only_if, known, Tally, tally, step_of, Sweep, StepFits}
+use Rattle.cost.specs.Account.{Seen, Event, event_of, Deed, deed, deed_of, only_if, Tally, tally, step_of, Sweep, StepFits}
 use Rattle.cost.proofs.Aside.{Apart, aside}
 use Rattle.cost.proofs.Chain.{seen_by}
 use Rattle.cost.proofs.Lies.{may_same}

@@ -1,6 +1,6 @@
 -- A rewind keeps what ties the past to the grid: it comes to nothing in the history, and leaves the grid as it is or takes a
 -- grid at rest to a grid at rest (CallKinds.antt).
-use mathlib.Core.Path.{◌≡◌, refl, sym, subst}
+use mathlib.Core.Path.{◌≡◌, refl}
 use mathlib.Core.Bool.{Bool, true, false}
 use mathlib.Core.Option.{none}
 use mathlib.Core.List.{List, ◌∷◌}
@@ -10,7 +10,6 @@ use Rattle.base.specs.Outcome.{pick}
 use Rattle.calls.specs.Call.{accepted_number}
 use Rattle.rewind.specs.Rewind.{wound_tables}
 use Rattle.grid.specs.Run.{Grid, rewind, Answer, call}
-use Rattle.runs.specs.Rest.{AtRest}
 use Rattle.runs.proofs.Rewound.{wound_grid, wound_good, Rewinding, moving, resting, rewinding}
 use Rattle.runs.proofs.View.{view}
 use Rattle.cost.specs.Account.{Event, event_of, deed, deed_of, only_if}

@@ -10,7 +10,7 @@ use lib.Dec.{T, eqb, eqb_refl, eqb→eq}
 use lib.Seq.{get_or-set_same, get_or-set_other}
 use borrow.Author.Tests.{ltb-true, not-true}
 use Rattle.base.specs.Lists.{In, here, there}
-use Rattle.base.specs.Outcome.{Outcome, blocked, done, pick}
+use Rattle.base.specs.Outcome.{Outcome, corrupt, blocked, done, pick}
 use Rattle.base.specs.Table.{at, upd}
 use Rattle.base.proofs.Table.{at_or, by_test, upd_same, upd_other, clash}
 use Rattle.layout.specs.Place.{cell_of}
@@ -204,6 +204,7 @@ module _ (past : List Event) (g : Grid) (R : Rel past g) where
     by_kept : (l< : l < 8) → is_idle u₀.stage ≡ false → u₀.stage ≢ Idle → (o : Outcome (Move Tables)) → stage_on t (suc l) u₀ u₀.stage ≡ o → Kept g R.good.shape R.good.ghost R.good.inv l l< o
         → Moves Moved o → Stepped (steppedCall t g.updaters (put_stage g.updaters l) o)
     unfolding after steppedCall
+    by_kept l< was n corrupt e k w = elim k [ ]
     by_kept l< was n blocked e still w = λ G. let ev = event_by (step_update l) (answered 20 t g.updaters) in rel_nothing ev past g (blocked_nothing ev (deed_accepted ev 20 refl refl refl)) R
     by_kept l< was n (done m) e (on _ gh z I E) w = λ G.
         let ev = event_by (step_update l) (answered m.number m.tables (put_stage g.updaters l m.next)) in

@@ -8,7 +8,7 @@ use Rattle.updates.specs.Update.{idle_updaters}
 use Rattle.queries.specs.Query.{question_of, idle_queries}
 use Rattle.grid.specs.Run.{Grid, grid_of, empty_grid, Call, start_query, collect, call, run, answers}
 use Rattle.examples.specs.Trials.{Row, row, start, steps, sweeps, numbers_of}
-use Rattle.examples.specs.Trials.{gives, says, Holds, both, opened}
+use Rattle.examples.specs.Trials.{Holds, both, opened}
 
 -- ---- calls
 

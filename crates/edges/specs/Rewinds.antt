@@ -7,7 +7,7 @@ use Rattle.rest.specs.Rest.{all_below, updaters_idle, queries_idle, is_at_rest}
 use Rattle.rewind.specs.Rewind.{wound_stamp, wound_clock, wound_tables, rewind_tables}
 use Rattle.grid.specs.Run.{Grid, grid_of, empty_grid, Call, collect, rewind, Answer, run, answers}
 use Rattle.examples.specs.Trials.{Row, row, start, steps, sweep, sweeps, numbers_of}
-use Rattle.examples.specs.Trials.{gives, says, Holds, both, opened}
+use Rattle.examples.specs.Trials.{Holds, both, opened}
 
 -- the numbers, steps and entries of all answers, one after the other
 unfoldable said_by : List Answer → List ℕ

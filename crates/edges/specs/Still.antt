@@ -3,7 +3,7 @@
 use Rattle.std.specs.Prelude.{◌≡◌, refl, List, [], ◌∷◌, ◌++◌, ℕ, zero, suc}
 use Rattle.grid.specs.Run.{Grid, empty_grid, Call, step_query, run, answers}
 use Rattle.progress.specs.Progress.{updating, querying, number_now}
-use Rattle.examples.specs.Trials.{Row, row, start, step, steps, sweep, sweeps, numbers_of, gives, says, Holds, both, opened}
+use Rattle.examples.specs.Trials.{Row, row, start, step, steps, sweep, numbers_of, gives, says, Holds, both, opened}
 
 -- ---- what is shown of a run
 

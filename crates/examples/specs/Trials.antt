@@ -86,7 +86,7 @@ sweeps l zero = []
 sweeps l (suc n) = step_query l ∷ sweeps l n
 
 -- the steps and the entries that a collection from lane 0 hands back after the calls, after its number
-collected : List Call → List ℕ
+pub collected : List Call → List ℕ
 collected cs = let a = (call (collect 0 1024) (run cs empty_grid)).0 in a.number ∷ a.steps ∷ a.part
 
 -- the account of the last query of lane 0 after the calls: its steps, K, N, whether it has finished, what was found in its cells, and the tally's count
@@ -94,11 +94,11 @@ account_by : Option Sweep → ℕ → List ℕ
 account_by none n = []
 account_by (some q) n = q.steps ∷ cells_touched q.question ∷ length q.objects ∷ bit q.finished ∷ total q.entered ∷ n ∷ []
 
-account : List Call → List ℕ
+pub account : List Call → List ℕ
 account cs = let past = history cs empty_grid [] in account_by (latest 0 (queriesOf past)) (tally past 0).count
 
 -- the tally's answers to the accepted steps of queries, the last one first
-tallied : List Event → List ℕ
+pub tallied : List Event → List ℕ
 tallied [] = []
 tallied (e ∷ past) = only_if (deed e).goes (λ a. (step_of e.seen (tally past a.0)).0 ∷ tallied past) (tallied past)
 
@@ -121,7 +121,7 @@ stage_no (DeleteOld p) = 13
 stage_no ReleaseObject = 14
 
 -- the stages at which lane 0 stands after each call
-stages : Grid → List Call → List ℕ
+pub stages : Grid → List Call → List ℕ
 stages g [] = []
 stages g (k ∷ ks) = let h = (call k g).1 in stage_no (get_or h.updaters 0 idle_updater).stage ∷ stages h ks
 
@@ -130,7 +130,7 @@ during_by : Option Sweep → ℕ → List ℕ
 during_by none k = []
 during_by (some q) k = one (q.updates k)
 
-during : List Call → ℕ → List ℕ
+pub during : List Call → ℕ → List ℕ
 during cs k = during_by (latest 0 (queriesOf (history cs empty_grid []))) k
 
 -- carrier 7 is reported once, at (100, 100)
@@ -170,7 +170,7 @@ again =
 -- ---- the rows, in parts that are computed one by one
 
 -- numbers of places and entries, and coordinates at the edge
-unfoldable number_rows : List Row
+unfoldable pub number_rows : List Row
 number_rows =
     -- where the search starts for carrier 1, 2 and 4,294,967,295
     row (one (hash 1)) (one 316)
@@ -196,7 +196,7 @@ number_rows =
     ∷ []
 
 -- reports
-unfoldable report_rows : List Row
+unfoldable pub report_rows : List Row
 report_rows =
     -- first report: 7 steps
     row (numbers empty_grid (start 0 7 100 100 ∷ steps 0 7)) (0 ∷ 0 ∷ 0 ∷ 0 ∷ 0 ∷ 0 ∷ 0 ∷ 22 ∷ [])
@@ -213,7 +213,7 @@ report_rows =
     ∷ []
 
 -- sweeps and their lists
-unfoldable sweep_rows : List Row
+unfoldable pub sweep_rows : List Row
 sweep_rows =
     -- a rectangle of one point is accepted, and a carrier on it is listed; lower x one above upper gives 6
     row (drop 8 (numbers empty_grid (seven ++ sweep 0 100 100 100 100 ∷ sweep 1 101 100 100 100 ∷ []))) (0 ∷ 6 ∷ [])
@@ -233,7 +233,7 @@ sweep_rows =
     ∷ []
 
 -- marks (document 02, request d)
-unfoldable mark_rows : List Row
+unfoldable pub mark_rows : List Row
 mark_rows =
     -- mark 9 is accepted, 10 gives 31; a point off the deck comes before it
     row (numbers empty_grid (marked 0 7 100 100 9 ∷ marked 1 8 100 100 10 ∷ marked 1 8 16384 0 10 ∷ [])) (0 ∷ 31 ∷ 5 ∷ [])
@@ -250,7 +250,7 @@ mark_rows =
     ∷ []
 
 -- the account of a sweep and the tally's answers
-unfoldable account_rows : List Row
+unfoldable pub account_rows : List Row
 account_rows =
     -- the sweep of 9 steps: K = 3 and N = 1, so 9 is K + 6N and more than K + 5N; 6 buckets and tuples were found
     row (account nine) (9 ∷ 3 ∷ 1 ∷ 1 ∷ 6 ∷ 9 ∷ [])
@@ -262,7 +262,7 @@ account_rows =
     ∷ []
 
 -- how many reports there are during a sweep, and that the bound is for one of each carrier
-unfoldable bound_rows : List Row
+unfoldable pub bound_rows : List Row
 bound_rows =
     -- one report of carrier 9 during the sweep of 9 steps, which is all that the bound allows
     row (during nine 9) (one 1)
@@ -274,7 +274,7 @@ bound_rows =
     ∷ []
 
 -- THE TABLE: more rows go into a part, or into a part of their own
-pub table : List Row
+unfoldable pub table : List Row
 table = number_rows ++ report_rows ++ sweep_rows ++ mark_rows ++ account_rows ++ bound_rows
 
 unfoldable pub gives : List Row → List (List ℕ)
@@ -318,42 +318,3 @@ unfolding questions gives says stages stage_no upd during during_by account acco
     push make_room write raise hold stage1 stage2 stage3 go_back stage14 stage4 stage5 stage6 stage7 free_cell
     correct correct_moved rewrite lock_new choose stage8 stage9 stage10 stage11 stage12 stage13
 opened = 0
-
--- each part by computing it
-number_rows_lem : Holds number_rows
-unfolding opened number_rows
-number_rows_lem = refl
-
-report_rows_lem : Holds report_rows
-unfolding opened report_rows
-report_rows_lem = refl
-
-sweep_rows_lem : Holds sweep_rows
-unfolding opened sweep_rows
-sweep_rows_lem = refl
-
-mark_rows_lem : Holds mark_rows
-unfolding opened mark_rows
-mark_rows_lem = refl
-
-account_rows_lem : Holds account_rows
-unfolding opened account_rows
-account_rows_lem = refl
-
-bound_rows_lem : Holds bound_rows
-unfolding opened bound_rows
-bound_rows_lem = refl
-
--- THE PROOF: every row gives what document 01 says
-pub trials : gives table ≡ says table
-unfolding table
-trials =
-    both _ bound_rows
-    (both _ account_rows
-    (both _ mark_rows
-    (both _ sweep_rows
-    (both number_rows report_rows number_rows_lem report_rows_lem)
-    sweep_rows_lem)
-    mark_rows_lem)
-    account_rows_lem)
-    bound_rows_lem

@@ -1,6 +1,6 @@
 -- A rewind keeps the grid and its past: it tells the history nothing, and leaves the grid as it is or gives a grid at rest
 -- other times of the same signs and another clock (CallKinds.antt).
-use mathlib.Core.Path.{◌≡◌, sym, subst}
+use mathlib.Core.Path.{sym, subst}
 use mathlib.Core.List.{List}
 use Rattle.rewind.specs.Rewind.{wound_clock}
 use Rattle.grid.specs.Run.{Grid, rewind, Answer, call}

@@ -10,7 +10,6 @@ use Prim.Native.Nat.{ℕ, ◌<◌}
 use native.Mathlib.Omega.{arith}
 use lib.Dec.{T}
 use Rattle.base.specs.Outcome.{Outcome, corrupt, blocked, done}
-use Rattle.base.specs.Table.{at}
 use Rattle.base.proofs.Table.{clash}
 use Rattle.layout.specs.Place.{cell_of, decode}
 use Rattle.layout.specs.declared.place.Place.{Place}

@@ -14,7 +14,6 @@ use Rattle.base.specs.Outcome.{pick}
 use Rattle.base.specs.Table.{at}
 use Rattle.base.proofs.Table.{by_test, clash}
 use Rattle.layout.specs.Place.{cell_of}
-use Rattle.readers.specs.declared.Standing.{Standing}
 use Rattle.index.specs.Search.{search}
 use Rattle.stage.specs.Turn.{is_idle}
 use Rattle.stage.specs.declared.Stage.{Stage}
@@ -23,7 +22,7 @@ use Rattle.stage.specs.declared.Updater.{Updater}
 use Rattle.query.specs.declared.Scan.{Scan}
 use Rattle.query.specs.declared.Scan.TheVariants.{Idle as IdleQuery, Enter, Read, Finished}
 use Rattle.query.specs.declared.Query.{Query}
-use Rattle.tables.specs.Tables.{Tables, right_lengths}
+use Rattle.tables.specs.Tables.{Tables}
 use Rattle.calls.specs.Causes.{Cause, first_cause}
 use Rattle.updates.specs.Update.{idle_updater}
 use Rattle.updates.specs.Causes.{entry_of, stage_causes, stage_number, step_causes}

@@ -1,9 +1,8 @@
 -- A round of steps: a step that does not move leaves the grid as it was, so the first task that moves in the grid
 -- before the round still moves when its turn comes, unless another has moved before it.
-use mathlib.Core.Path.{◌≡◌, refl, sym, subst}
-use mathlib.Core.Logic.{◌≢◌, ◌⊎◌, inl, inr}
+use mathlib.Core.Path.{◌≡◌, subst}
+use mathlib.Core.Logic.{◌≢◌, inl, inr}
 use mathlib.Core.List.{List, [], ◌∷◌, Memᴰ}
-use Prim.Native.Nat.{ℕ}
 use Rattle.base.specs.Lists.{in-none, in-or}
 use Rattle.base.proofs.Table.{at_or}
 use Rattle.updates.proofs.Refusals.{step_refused}

@@ -2,8 +2,7 @@
 -- hold it up is a lock or a reader of a lane of a higher rank (Ranks.antt), and there is none. So no next step of it
 -- can be held (Held.antt), and 12 never comes.
 use mathlib.Core.Path.{◌≡◌, refl, sym, ◌∙◌}
-use mathlib.Core.Logic.{◌≢◌, ◌⊎◌, ⊎_elim}
-use mathlib.Core.Bool.{true}
+use mathlib.Core.Logic.{◌≢◌, ⊎_elim}
 use Prim.Native.Nat.{ℕ, zero, suc, ◌<◌, ◌≤◌}
 use native.Mathlib.Omega.{arith}
 use lib.Dec.{T, ltb}
@@ -12,7 +11,6 @@ use Rattle.base.specs.Table.{at}
 use Rattle.base.proofs.Sums.{count_none}
 use Rattle.base.proofs.Table.{by_test}
 use Rattle.layout.specs.Place.{cell_of}
-use Rattle.readers.specs.declared.Standing.{Standing}
 use Rattle.index.specs.Search.{search}
 use Rattle.index.specs.Index.{Index, entry_for, position, entry_of as entryIn}
 use Rattle.index.specs.declared.search.Search.{Search}
@@ -21,10 +19,8 @@ use Rattle.stage.specs.declared.Stage.{Stage}
 use Rattle.stage.specs.declared.Stage.TheVariants.{Idle, TakeObject, LockCell, LookLast, CopyLast, LowerCount, ReturnBucket, ErasePlace, ChooseCell, MakeRoom, WriteTuple, RaiseCount, SwitchPlace, DeleteOld, ReleaseObject}
 use Rattle.query.specs.declared.Scan.{Scan}
 use Rattle.query.specs.declared.Scan.TheVariants.{Idle as IdleQuery, Enter, Read, Finished}
-use Rattle.calls.specs.Causes.{first_cause}
-use Rattle.updates.specs.Causes.{entry_of, step_causes, stage_number}
+use Rattle.updates.specs.Causes.{entry_of}
 use Rattle.updates.proofs.Refusals.{step_number}
-use Rattle.queries.specs.Causes.{scan_end, step_causes as queryCauses}
 use Rattle.queries.proofs.Refusals.{step_number as query-number}
 use Rattle.grid.specs.Run.{Grid, step_update, step_query, call}
 use Rattle.tuples.proofs.Dry.{mov_own}
@@ -35,7 +31,7 @@ use Rattle.runs.proofs.Every.{Good}
 use Rattle.runs.proofs.Runs.{call_good}
 use Rattle.runs.proofs.View.{view, known_f, lock_f, scanner_f}
 use Rattle.progress.specs.Progress.{Task, updating, querying, UnderWay, Moves, NeverStill, OpenMoves}
-use Rattle.progress.proofs.Held.{moves_or12, which, Free, FreeQuery, update_flows, query_flows}
+use Rattle.progress.proofs.Held.{which, Free, FreeQuery, update_flows, query_flows}
 use Rattle.progress.proofs.Ranks.{rank, rank_of, ranked, ranked_query, rank_busy, rank_unfinished, best}
 
 -- the lock of a known object, as its entry has it

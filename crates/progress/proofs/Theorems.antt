@@ -5,7 +5,7 @@ use Rattle.grid.specs.Run.{Grid, Call, run, empty_grid}
 use Rattle.runs.proofs.Empty.{empty_good}
 use Rattle.runs.proofs.Every.{Good}
 use Rattle.runs.proofs.Runs.{run_good}
-use Rattle.progress.specs.Progress.{NeverStill, OpenMoves, RoundMoves, Progress}
+use Rattle.progress.specs.Progress.{Progress}
 use Rattle.progress.proofs.Rounds.{round_moves}
 use Rattle.progress.proofs.Still.{never_still, open_moves}
 

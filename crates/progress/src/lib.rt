@@ -1,1 +1,2 @@
 // Some step is never held: see specs and proofs. No function.
+#![tactic(auto)]

@@ -14,12 +14,11 @@ use Rattle.layout.specs.Place.{nowhere}
 use Rattle.index.specs.Index.{empty as emptyIndex}
 use Rattle.index.proofs.Map.{sound_empty, lookup_empty}
 use Rattle.index.proofs.Known.{known_empty}
-use Rattle.pool.specs.Pool.{Has, fresh}
+use Rattle.pool.specs.Pool.{fresh}
 use Rattle.pool.proofs.Laws.{fresh_sound, fresh_has}
 use Rattle.slots.specs.Tuple.{Tuple}
 use Rattle.stage.specs.declared.Stage.TheVariants.{Idle}
 use Rattle.tables.specs.Tables.{empty_tables}
-use Rattle.tables.proofs.Sized.{lengths}
 use Rattle.updates.specs.Update.{idle_updater, idle_updaters}
 use Rattle.queries.specs.Query.{idle_query, idle_queries}
 use Rattle.grid.specs.Run.{empty_grid}

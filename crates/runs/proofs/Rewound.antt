@@ -2,7 +2,7 @@
 -- grid is at rest and is given other times and another clock (CallKinds.antt): every time keeps its sign, and is 1 at most.
 use mathlib.Core.Path.{◌≡◌, refl, sym, ap, subst, ◌∙◌}
 use mathlib.Core.Logic.{◌≢◌}
-use mathlib.Core.Bool.{Bool, true, false}
+use mathlib.Core.Bool.{false}
 use mathlib.Core.List.{List, [], map}
 use Prim.Native.Nat.{ℕ, ◌+◌, ◌*◌, ◌≤◌}
 use native.Mathlib.Omega.{arith}
@@ -11,13 +11,13 @@ use lib.IntN.{ℤ, nat_abs}
 use lib.ListN.{length}
 use Rattle.base.specs.Outcome.{pick}
 use Rattle.base.proofs.Table.{by_test}
-use Rattle.slots.specs.Tuple.{Tuples, Tuple, tuples_of}
+use Rattle.slots.specs.Tuple.{Tuples, tuples_of}
 use Rattle.calls.specs.Call.{after, unless}
 use Rattle.rest.specs.Rest.{is_at_rest}
 use Rattle.rest.proofs.Facts.{at_rest_facts}
 use Rattle.rewind.specs.Rewind.{wound_stamp, wound_clock, wound_tables, rewind_tables}
 use Rattle.rewind.proofs.Winding.{above_wound, below_wound, abs_wound, map-length, map_at, clock_wound}
-use Rattle.grid.specs.Run.{Grid, grid_of, Call, rewind, Answer, answer_of, call}
+use Rattle.grid.specs.Run.{Grid, grid_of, rewind, Answer, answer_of, call}
 use Rattle.machine.specs.Marks.{stands, stood}
 use Rattle.tuples.proofs.Atrest.{Retimed}
 use Rattle.runs.specs.Rest.{AtRest}

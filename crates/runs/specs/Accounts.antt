@@ -1,7 +1,7 @@
 -- EACH CARRIER ACCOUNTS FOR AT MOST TWO BUCKETS (document 01): every bucket that is not in the pool is put down to a
 -- known object, to each at most one for its current tuple and one for its former tuple.
 use Rattle.std.specs.Prelude.{◌≡◌, Bool, true, false, List, ℕ, ◌+◌, ◌*◌, ◌<◌, ◌≤◌}
-use Rattle.std.proofs.Math.Option.{Option, none, some}
+use Rattle.std.proofs.Math.Option.{Option, some}
 use Rattle.base.specs.Table.{at}
 use Rattle.layout.specs.Place.{cell_of}
 use Rattle.slots.specs.Tuple.{tuple_in, slot_at}

@@ -18,10 +18,9 @@ use Rattle.machine.proofs.Pigeon.{by_pair}
 use Rattle.layout.specs.declared.place.Place.{Place}
 use Rattle.stage.specs.declared.Stage.{Stage}
 use Rattle.stage.specs.declared.Stage.TheVariants.{Idle, TakeObject, LockCell, LookLast, CopyLast, LowerCount, ReturnBucket, ErasePlace, ChooseCell, MakeRoom, WriteTuple, RaiseCount, SwitchPlace, DeleteOld, ReleaseObject}
-use Rattle.stage.specs.declared.Updater.{Updater}
 use Rattle.machine.specs.Machine.{Entry, St, Out, to, do_stage}
 use Rattle.cells.proofs.Chains.{in_chain}
-use Rattle.tuples.proofs.Inv.{Pos, Kind, k_cur, k_prev, k_new, k_dup, sel, pl, Top, Lowering, Ok, stage_holds_own, mv, cl, bk, Ghost, numbered, Inv}
+use Rattle.tuples.proofs.Inv.{Pos, Kind, k_cur, k_prev, k_new, k_dup, sel, pl, Top, Lowering, Ok, mv, cl, bk, Ghost, numbered, Inv}
 use Rattle.tuples.proofs.Facts.{at_stage}
 use Rattle.tuples.proofs.Fresh.{late, main}
 use Rattle.tuples.proofs.Ahead.{Goes}

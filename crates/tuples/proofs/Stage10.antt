@@ -22,7 +22,7 @@ use Rattle.layout.specs.declared.place.Place.{Place}
 use Rattle.layout.specs.Place.{cell_of}
 use Rattle.slots.specs.Tuple.{Tuple}
 use Rattle.stage.specs.declared.Stage.TheVariants.{WriteTuple, RaiseCount, SwitchPlace}
-use Rattle.machine.specs.Machine.{St, Out, put, to, put_lane, with_count, with_tup, with_clock, no_prev, new_tuple, stage10, stage11}
+use Rattle.machine.specs.Machine.{St, Out, put, to, put_lane, with_count, with_tup, with_clock, new_tuple, stage10, stage11}
 use Rattle.cells.proofs.Chains.{in_chain}
 use Rattle.tuples.proofs.Inv.{Pos, Kind, k_cur, k_prev, k_new, k_dup, sel, mk, pl, plain, Fit, Outside, Ok, stage_holds_own, mov_held, cel_held, mv, cl, goal, bk, filling, Ghost, draws, Inv}
 use Rattle.tuples.proofs.Slots.{Lose, put_same, put_else, slot_or, retup, add}

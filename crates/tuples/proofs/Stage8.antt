@@ -25,7 +25,7 @@ use Rattle.layout.specs.declared.place.Place.{Place}
 use Rattle.layout.specs.Place.{cell_of}
 use Rattle.slots.specs.Tuple.{Tuple}
 use Rattle.stage.specs.declared.Stage.TheVariants.{ChooseCell, MakeRoom, DeleteOld, ReleaseObject}
-use Rattle.machine.specs.Machine.{St, Out, put, to, place_in_cell, put_lane, with_cell_lock, with_tup, with_clock, no_prev, flagged, stage8, stage13}
+use Rattle.machine.specs.Machine.{St, Out, put, to, place_in_cell, put_lane, with_cell_lock, with_tup, with_clock, flagged, stage8, stage13}
 use Rattle.base.proofs.Sums.{sum_term}
 use Rattle.tuples.proofs.Inv.{k_cur, k_prev, sel, mk, plain, Lives, Fit, top_of, Outside, Ok, stage_holds_own, mov_held, cel_held, mv, cl, goal, bk, filling, Ghost, draws, Inv}
 use Rattle.tuples.proofs.Slots.{put_same, put_else, slot_or, same_place, retup, rename}
@@ -33,8 +33,7 @@ use Rattle.tuples.proofs.Local.{Local, freed}
 use Rattle.tuples.proofs.Common.{fit_put, oks, writes, lanes_step, filled_quiet, back_quiet, ticks_step, young_put, placed_put, reading_step, written_put}
 use Rattle.tuples.proofs.Facts.{ends_fork, stay, stay_eq, at_stage, own_locked}
 use Rattle.tuples.proofs.Moves.{cells_keep, cells_take, objs_keep}
-use Rattle.tuples.proofs.Fresh.{Met, live, left}
-use Rattle.machine.specs.History.{told}
+use Rattle.tuples.proofs.Fresh.{Met}
 use Rattle.tuples.proofs.Effect.{Effect, old, written, main_or, quiet, puts, told_stands, told_flag}
 
 module _ {O : StoreOps} {S : Store O} {g : Ghost} {d : St} (I : Inv S g d) (q : Place) (v : Tuple) (live : Lives g.own d.count q) (same : v.oid ≡ (d.tup q.bucket q.slot).oid) where
