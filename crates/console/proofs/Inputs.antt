@@ -4,19 +4,18 @@
 -- its first 61.
 use mathlib.Core.Path.{◌≡◌, refl, sym, ap, ◌∙◌}
 use mathlib.Core.Bool.{Bool, true, false}
-use mathlib.Core.List.{List, [], ◌∷◌, ◌++◌, append-nil, map}
+use mathlib.Core.List.{List, [], ◌∷◌, ◌++◌, map}
 use Prim.Native.Nat.{ℕ, suc, ◌≤◌}
 use native.Mathlib.Omega.{arith}
 use lib.Dec.{eqb}
 use lib.ListN.{length, take, length-take}
 use Rattle.base.specs.Outcome.{pick}
-use Rattle.script.specs.Parse.{parse_line}
 use Rattle.script.proofs.Theorems.{parse_kept}
 use Rattle.grid.specs.Run.{Grid}
-use Rattle.lines.specs.Line.{Lined, line_step, command_step}
+use Rattle.lines.specs.Line.{Lined, line_step}
 use Rattle.streams.specs.Lines.{joined, last_line, lines_behind, lines_of, kept_lines}
 use Rattle.streams.specs.Lines.{Cuts, over, another, ended, onward}
-use Rattle.console.specs.Text.{text_of, line_text, script_text}
+use Rattle.console.specs.Text.{line_text, script_text}
 use Rattle.streams.proofs.Cutting.{kept_again}
 use Rattle.streams.proofs.Fetching.{cut_lines}
 

@@ -12,13 +12,12 @@ use lib.IntN.{ℤ}
 use lib.ListN.{length, take, drop, replicate, length-append}
 use lib.Seq.{sets-eq, take_at, length-take-le}
 use Rattle.words.specs.Map.{WORDS, TIMES}
-use Rattle.tables.specs.Tables.{Tables, right_lengths, empty_tables}
+use Rattle.tables.specs.Tables.{Tables}
 use Rattle.tables.specs.Grid.{grid}
 use Rattle.tables.proofs.Grid.{right_words_lem}
 use Rattle.stage.specs.declared.Updater.{Updater}
 use Rattle.query.specs.declared.Query.{Query}
 use Rattle.calls.specs.Call.{After, after, after_of, unless}
-use Rattle.answers.specs.Printed.{Printed}
 use Rattle.grid.specs.Grid.{Lanes, lanes_of, reset_grid}
 use Rattle.grid.specs.Run.{Grid, grid_of, empty_grid}
 use Rattle.lines.specs.Line.{line_step}
@@ -27,9 +26,8 @@ use Rattle.console.specs.Text.{line_text, script_text}
 use Rattle.console.specs.Turn.{Turn}
 use Rattle.streams.specs.Reading.{unread}
 use Rattle.streams.specs.Next.{at_start, Later, due, NextLine}
-use Rattle.console.specs.Run.{output_of, Begins, Ran}
+use Rattle.console.specs.Run.{output_of, Ran}
 use Rattle.streams.specs.declared.progress.Progress.{Progress}
-use Rattle.console.specs.declared.run.Ended.{Ended}
 use Rattle.streams.proofs.Cutting.{joined-append, joined_more}
 use Rattle.console.proofs.Inputs.{kept_output}
 

@@ -1,7 +1,7 @@
 -- WHAT ANSWERING A LINE PROMISES, of the tables t as it finds them and t' as it leaves them: the line is done, and its
 -- answer printed behind what waits.
 use Rattle.std.specs.Prelude.{List, ℕ}
-use Rattle.base.specs.Lent.{Lent, old, new}
+use Rattle.base.specs.Lent.{Lent}
 use Rattle.tables.specs.Tables.{Tables}
 use Rattle.stage.specs.declared.Updater.{Updater}
 use Rattle.query.specs.declared.Query.{Query}
@@ -13,5 +13,5 @@ use Rattle.console.specs.declared.turn.Answered.{Answered}
 abbrev pub Prints : Lent (List ℕ) → Due → Lent (List ℕ) → Lent (List ℕ) → List Updater → List Query → Answered
     → Tables → Tables → Type 0
 Prints line due out list us qs r t t' =
-    Turn due.number (old line) (grid_of t us qs) (old list) (old out) due.waiting
-    (grid_of t' r.updaters r.queries) (new list) (new out) r.waiting
+    Turn due.number line.old (grid_of t us qs) list.old out.old due.waiting
+    (grid_of t' r.updaters r.queries) list.new out.new r.waiting

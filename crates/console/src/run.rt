@@ -4,13 +4,14 @@ ghost use Rattle.console.specs.Run.{Ran};
 use crate::turn::{Due, answer_line};
 use grid::reset::reset;
 use queries::lanes::idle_queries;
+use std::io::{Read, Write};
 use streams::output::hand_over;
 use streams::progress::{next_line, no_progress};
 use updates::lanes::idle_updaters;
 use words::{TIMES, WORDS};
 
 // How a run ended.
-#[derive(Drop)]
+#[derive(Clone, Copy)]
 pub struct Ended {
     // No read failed.
     pub reads: bool,
@@ -22,7 +23,7 @@ pub struct Ended {
 
 // Runs the script that the input has on an empty grid of its own. A read or a write that fails ends the run.
 // The line numbers bound the loop.
-pub fn run_script(input: i32, output: i32) -> Ended
+pub fn run_script<R: Read, W: Write>(input: &mut R, output: &mut W) -> Ended
     ensures { Ran result }
 {
     let mut words = [0u32; WORDS];

@@ -1,5 +1,6 @@
 // ONE LINE of a script: done on the grid, and its answer printed.
 ghost use Rattle.std.specs.Prelude.{◌+◌, ◌≤◌, ◌≡◌, length};
+ghost use Rattle.base.specs.Lent.{seen, lent};
 ghost use Rattle.tables.specs.Promise.{OnGrid};
 ghost use Rattle.console.specs.Promise.{Prints};
 
@@ -9,14 +10,14 @@ use query::Query;
 use stage::Updater;
 
 // The number of a line, and the place in the buffer where its answer belongs: behind what waits there.
-#[derive(Drop)]
+#[derive(Clone, Copy)]
 pub struct Due {
     pub number: u64,
     pub waiting: usize,
 }
 
 // The place behind the answer, and the lanes afterwards.
-#[derive(Drop)]
+#[derive(Clone, Copy)]
 pub struct Answered {
     pub waiting: usize,
     pub updaters: [Updater; 8],
@@ -35,7 +36,7 @@ pub fn answer_line(
     times: &mut [i32],
 ) -> Answered
     requires { (due.waiting + 11328 ≤ length out.old) × (length list.old ≡ 1024) }
-    ensures { OnGrid words times (Prints line due out list updaters queries result) }
+    ensures { OnGrid (lent words) (lent times) (Prints (seen line) due (lent out) (lent list) updaters queries result) }
 {
     let done = line_step(line, list, updaters, queries, words, times);
     let place = print_step(

@@ -1,15 +1,16 @@
 // The script program (document 01): reads calls from standard input, a line for each, and prints a line for each
 // answer.
-use console::run::run_script;
-use libc::{STDERR_FILENO, STDIN_FILENO, STDOUT_FILENO};
+#![tactic(auto)]
 
-// A failure is told on standard error: a Rattle program has no exit status.
-fn main() {
-    let run = run_script(STDIN_FILENO, STDOUT_FILENO);
+use console::run::run_script;
+
+// A failure is told on standard error; the exit status is 0 all the same.
+fn main(rt: HostRuntime) {
+    let run = run_script(&mut rt.stdin(), &mut rt.stdout());
     if !run.reads {
-        io::write_all(STDERR_FILENO, b"grid_script: reading failed\n");
+        let _ = rt.eprintln("grid_script: reading failed");
     }
     if !run.writes {
-        io::write_all(STDERR_FILENO, b"grid_script: writing failed\n");
+        let _ = rt.eprintln("grid_script: writing failed");
     }
 }

@@ -3,14 +3,14 @@ ghost use Rattle.std.specs.Prelude.{◌≡◌, drop};
 ghost use Rattle.script.specs.Parse.{digits_on, number as Parse·number, field, read_tells, number_says};
 
 // A number and the place of the byte behind it.
-#[derive(Drop)]
+#[derive(Clone, Copy)]
 pub struct Numeral {
     pub value: u32,
     pub next: usize,
 }
 
 // What stands at a place of a line.
-#[derive(Drop)]
+#[derive(Clone, Copy)]
 pub enum Number {
     Missing,
     Read(Numeral),

@@ -5,16 +5,16 @@ use mathlib.Core.Path.{◌≡◌, refl, sym, ap, ◌∙◌}
 use mathlib.Core.Bool.{Bool, true, false}
 use mathlib.Core.Option.{Option, none, some}
 use mathlib.Core.List.{List, [], ◌∷◌, ◌++◌, append_assoc, append-nil}
-use Prim.Native.Nat.{ℕ, suc, ◌+◌, ◌≤◌}
+use Prim.Native.Nat.{ℕ, suc, ◌≤◌}
 use native.Mathlib.Omega.{arith}
 use borrow.Author.Tests.{leb-true, leb-false}
 use Rattle.base.proofs.Table.{by_test}
 use lib.Dec.{eqb, leb}
-use lib.ListN.{length, take, drop, length-take, length-append, drop_of_length-le}
-use lib.Seq.{take_all, take_at, length-take-le, take-append-le, append_snoc}
+use lib.ListN.{length, take, length-take}
+use lib.Seq.{take_all, take_at, length-take-le, take-append-le}
 use Rattle.base.specs.Outcome.{pick}
 use Rattle.script.specs.Split.{before, behind, spent}
-use Rattle.streams.specs.Lines.{joined, last_line, kept_lines}
+use Rattle.streams.specs.Lines.{joined, kept_lines}
 
 -- ---- blocks one behind the other
 

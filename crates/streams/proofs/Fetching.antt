@@ -1,19 +1,17 @@
 -- READING LINE BY LINE: one law for each turn of fetch_line. What was kept and what is unread, with the blocks read
 -- since, make the same lines, whatever comes later: a turn that reads another block puts it behind the unread bytes, of
 -- which there were none; a turn in a block is a cut (Cutting.antt).
-use mathlib.Core.Path.{◌≡◌, refl, sym, ap, ◌∙◌, subst}
+use mathlib.Core.Path.{◌≡◌, refl, sym, ap, ◌∙◌}
 use mathlib.Core.Bool.{Bool, true, false}
-use mathlib.Core.Option.{Option, none, some}
-use mathlib.Core.List.{List, [], ◌∷◌, ◌++◌, append_assoc, append-nil}
-use Prim.Native.Nat.{ℕ, ◌+◌, ◌<◌, ◌≤◌}
+use mathlib.Core.List.{List, [], ◌∷◌, ◌++◌, append_assoc}
+use Prim.Native.Nat.{ℕ, ◌≤◌}
 use native.Mathlib.Omega.{arith}
 use lib.ListN.{length, take, drop, length-take, length-drop, drop_of_length-le}
-use lib.Seq.{length-take-le}
 use Rattle.base.specs.Outcome.{pick}
-use Rattle.script.specs.Split.{before, behind, spent, Kept}
+use Rattle.script.specs.Split.{Kept}
 use Rattle.streams.specs.Lines.{joined, kept_lines}
 use Rattle.streams.specs.Reading.{coming, Gives, has_ended, unread, Within}
-use Rattle.streams.specs.Reading.{NewBlock, Turned, another, onward, Fetches}
+use Rattle.streams.specs.Reading.{Turned, another, onward, Fetches}
 use Rattle.streams.specs.declared.input.Fetched.{Fetched}
 use Rattle.streams.specs.declared.input.Fetched.TheVariants.{More, Line, End, Failed}
 use Rattle.streams.specs.declared.input.Input.{Input}

@@ -3,10 +3,13 @@
 // Each call would be accepted: with the right lengths it is.
 // Everything else at its bounds and on damaged tables is run through the library in C, where no length can be wrong
 // (tests/calls).
+#![tactic(auto)]
+
 use layout::question::Question as Rectangle;
 use query::{Query, Scan};
 use regions::region::{Kind, Region};
 use stage::{Stage, Updater};
+use std::io;
 use test_show::{same_numbers, say, say_number};
 use words::{INDEX, TIMES, WORDS};
 
@@ -65,42 +68,47 @@ fn step_query(words: &mut [u32], times: &[i32]) -> u32 {
     queries::step::step_one(query_at(Scan::Enter(0)), 0, words, times).number
 }
 
-fn run(words: &mut [u32], times: &mut [i32]) {
-    say(b"start of an update: ", start_update(words, times));
-    say(b"step of an update: ", step_update(words, times));
-    say(b"start of a query: ", start_query(words, times));
-    say(b"step of a query: ", step_query(words, times));
+fn run(rt: &impl Print, words: &mut [u32], times: &mut [i32]) -> io::Result<()> {
+    say(rt, b"start of an update: ", start_update(words, times))?;
+    say(rt, b"step of an update: ", step_update(words, times))?;
+    say(rt, b"start of a query: ", start_query(words, times))?;
+    say(rt, b"step of a query: ", step_query(words, times))
 }
 
-fn run_words() {
+fn run_words(rt: &impl Print) -> io::Result<()> {
     let mut words = [0u32; WORDS - 1];
     let mut times = [0i32; TIMES];
     words[OWN] = 1;
     let was = words;
-    run(&mut words, &mut times);
-    say_number(b"words: ", 16897, same_numbers(&words, &was));
+    run(rt, &mut words, &mut times)?;
+    say_number(rt, b"words: ", 16897, same_numbers(&words, &was))
 }
 
-fn run_stamps() {
+fn run_stamps(rt: &impl Print) -> io::Result<()> {
     let mut words = [0u32; WORDS];
     let mut times = [0i32; TIMES - 1];
     words[OWN] = 1;
     let was = words;
-    run(&mut words, &mut times);
-    say_number(b"stamps: ", 2047, same_numbers(&words, &was));
+    run(rt, &mut words, &mut times)?;
+    say_number(rt, b"stamps: ", 2047, same_numbers(&words, &was))
 }
 
-fn run_right() {
+fn run_right(rt: &impl Print) -> io::Result<()> {
     let mut words = [0u32; WORDS];
     let mut times = [0i32; TIMES];
     words[OWN] = 1;
     let was = words;
-    run(&mut words, &mut times);
-    say_number(b"both right, words: ", 16898, same_numbers(&words, &was));
+    run(rt, &mut words, &mut times)?;
+    say_number(
+        rt,
+        b"both right, words: ",
+        16898,
+        same_numbers(&words, &was),
+    )
 }
 
-fn main() {
-    run_words();
-    run_stamps();
-    run_right();
+fn main(rt: HostRuntime) -> io::Result<()> {
+    run_words(&rt)?;
+    run_stamps(&rt)?;
+    run_right(&rt)
 }

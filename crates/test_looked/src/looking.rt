@@ -17,7 +17,7 @@ use words::{HIT_XS, HITS, INDEX, TUPLES};
 const LIST_XS: usize = HITS + HIT_XS;
 
 // What a step looked at.
-#[derive(Drop)]
+#[derive(Clone, Copy)]
 pub enum Looked {
     Nothing,
     Entries(usize),

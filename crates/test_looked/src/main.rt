@@ -2,34 +2,61 @@
 // name and then the answers. What they must print was not made by this program.
 // A call is a line of a script, answered as the script program answers it, or `looked`, answered by how many entries
 // the step of a sweep looked at that read a slot last, or by `none` if it looked nothing up.
+#![tactic(auto)]
+
+ghost use Rattle.std.specs.Prelude.{◌≤◌, length};
+
 mod looking;
 mod run;
 
 use run::run_calls;
+use std::env::FillError;
+use std::io::Read;
+use std::rt::{Env, Files};
+use std::{fs, io, str};
 
-// Runs the calls of argument i. A file has at most 4,096 bytes.
-fn run_named(i: usize) {
-    let mut path = io::buffer();
-    let n = os::arg(i, &mut path);
-    let calls = os::open_read(&path[..n]);
-    if calls < 0 {
-        os::fail(&path[..n]);
-        return;
+// Reads until the buffer is full, the input ends or a read fails, and tells how many bytes were read.
+fn read_full<R: Read>(input: &mut R, text: &mut [u8]) -> usize
+    ensures { result ≤ length text.new }
+{
+    let mut done: usize = 0;
+    while done < text.len() {
+        let got = input.read(&mut text[done..]);
+        let Ok(n) = got else {
+            return done;
+        };
+        if n == 0 {
+            return done;
+        }
+        done += n;
     }
-    let mut text = io::buffer();
-    let bytes = io::read_full(calls, &mut text);
-    libc::close(calls);
-    io::write_all(libc::STDOUT_FILENO, b"# ");
-    io::write_all(libc::STDOUT_FILENO, &path[..n]);
-    io::write_all(libc::STDOUT_FILENO, b"\n");
-    run_calls(&text[..bytes]);
+    done
 }
 
-fn main() {
-    let count = os::arg_count();
-    let mut i: usize = 1;
-    while i < count {
-        run_named(i);
-        i += 1;
+// Runs the calls of the file with this name. A file has at most 4,096 bytes.
+fn run_named(rt: &(impl Files + Print + Eprint), name: &str) -> io::Result<()> {
+    let mut calls = match fs::open(rt, name) {
+        Ok(calls) => calls,
+        Err(e) => return eprintln!(rt; "{name}: {e}"),
+    };
+    let mut text = [0u8; 4096];
+    let bytes = read_full(&mut calls, &mut text);
+    println!(rt; "# {name}")?;
+    run_calls(rt, &text[..bytes])
+}
+
+// A name has at most 4,096 bytes.
+fn main(rt: HostRuntime) -> io::Result<()> {
+    let mut path = [0u8; 4096];
+    for i in 1..usize::MAX {
+        match rt.arg(i, &mut path) {
+            Ok(n) => match str::from_utf8(&path[..n]) {
+                Ok(name) => run_named(&rt, name)?,
+                Err(e) => eprintln!(rt; "argument {i}: {e}")?,
+            },
+            Err(FillError::NotPresent) => break,
+            Err(FillError::TooLong) => eprintln!(rt; "argument {i}: too long")?,
+        }
     }
+    Ok(())
 }

@@ -5,16 +5,16 @@ ghost use Rattle.words.specs.Map.{TIMES, WORDS};
 use crate::looking::{Looked, line_looked};
 use console::turn::{Due, answer_line};
 use grid::reset::reset;
-use libc::STDOUT_FILENO;
 use queries::lanes::idle_queries;
 use query::Query;
 use script::split::take_line;
 use stage::Updater;
+use std::io;
 use updates::lanes::idle_updaters;
 use words::{TIMES, WORDS};
 
 // The lanes after a call, and what was looked at last.
-#[derive(Drop)]
+#[derive(Clone, Copy)]
 struct Done {
     updaters: [Updater; 8],
     queries: [Query; 4],
@@ -30,29 +30,23 @@ fn asks_looked(line: &[u8]) -> bool {
 }
 
 // The answer to `looked`.
-fn say_looked(number: u64, looked: Looked) {
-    io::print_decimal(STDOUT_FILENO, number);
+fn say_looked(rt: &impl Print, number: u64, looked: Looked) -> io::Result<()> {
     match looked {
-        Looked::Nothing => {
-            io::write_all(STDOUT_FILENO, b",none\n");
-        }
-        Looked::Entries(n) => {
-            io::write_all(STDOUT_FILENO, b",");
-            io::print_decimal(STDOUT_FILENO, n as u64);
-            io::write_all(STDOUT_FILENO, b"\n");
-        }
+        Looked::Nothing => println!(rt; "{number},none"),
+        Looked::Entries(n) => println!(rt; "{number},{n}"),
     }
 }
 
 // Writes the answer that waits in the buffer.
-fn write_answer(out: &[u8], waiting: usize)
+fn write_answer(rt: &impl Print, out: &[u8], waiting: usize) -> io::Result<()>
     requires { waiting ≤ length out.now }
 {
-    io::write_all(STDOUT_FILENO, &out[..waiting]);
+    rt.write_all(&out[..waiting])
 }
 
 // Answers a call.
 fn answer_call(
+    rt: &impl Print,
     line: &[u8],
     number: u64,
     out: &mut [u8],
@@ -60,31 +54,31 @@ fn answer_call(
     d: Done,
     words: &mut [u32],
     times: &mut [i32],
-) -> Done
+) -> io::Result<Done>
     requires { (11328 ≤ length out.old) × (length list.old ≡ 1024) × (length words.old ≡ WORDS) × (length times.old ≡ TIMES) }
 {
     let last = d.looked;
     if asks_looked(line) {
-        say_looked(number, last);
-        return d;
+        say_looked(rt, number, last)?;
+        return Ok(d);
     }
     let updaters = d.updaters;
     let queries = d.queries;
     let looked = line_looked(line, queries, words, times, last);
     let due = Due { number, waiting: 0 };
     let done = answer_line(line, due, out, list, updaters, queries, words, times);
-    write_answer(out, done.waiting);
+    write_answer(rt, out, done.waiting)?;
     let updaters = done.updaters;
     let queries = done.queries;
-    Done {
+    Ok(Done {
         updaters,
         queries,
         looked,
-    }
+    })
 }
 
 // Answers calls, a line each, on an empty grid. The line numbers bound the loop.
-pub fn run_calls(text: &[u8]) {
+pub fn run_calls(rt: &impl Print, text: &[u8]) -> io::Result<()> {
     let mut words = [0u32; WORDS];
     let mut times = [0i32; TIMES];
     let mut list = [0u32; 1024];
@@ -109,6 +103,7 @@ pub fn run_calls(text: &[u8]) {
         next = cut.next;
         let kept = cut.kept;
         d = answer_call(
+            rt,
             &line[..kept],
             number,
             &mut out,
@@ -116,6 +111,7 @@ pub fn run_calls(text: &[u8]) {
             d,
             &mut words,
             &mut times,
-        );
+        )?;
     }
+    Ok(())
 }

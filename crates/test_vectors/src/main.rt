@@ -1,35 +1,41 @@
 // Runs each script that an argument names on an empty grid of its own, and prints a line with its name and then its
 // output. What they must print was not made by this program.
-use console::run::run_script;
-use libc::{STDERR_FILENO, STDOUT_FILENO};
+#![tactic(auto)]
 
-// Runs the script of argument i.
-fn run_named(i: usize) {
-    let mut path = io::buffer();
-    let n = os::arg(i, &mut path);
-    let script = os::open_read(&path[..n]);
-    if script < 0 {
-        os::fail(&path[..n]);
-        return;
-    }
-    io::write_all(STDOUT_FILENO, b"# ");
-    io::write_all(STDOUT_FILENO, &path[..n]);
-    io::write_all(STDOUT_FILENO, b"\n");
-    let run = run_script(script, STDOUT_FILENO);
-    libc::close(script);
+use console::run::run_script;
+use std::env::FillError;
+use std::rt::{Env, Files};
+use std::{fs, io, str};
+
+// Runs the script with this name.
+fn run_named(rt: &(impl Files + Print + Eprint), name: &str) -> io::Result<()> {
+    let mut script = match fs::open(rt, name) {
+        Ok(script) => script,
+        Err(e) => return eprintln!(rt; "{name}: {e}"),
+    };
+    println!(rt; "# {name}")?;
+    let run = run_script(&mut script, &mut io::writer(rt));
     if !run.reads {
-        io::write_all(STDERR_FILENO, b"test_vectors: reading failed\n");
+        rt.eprintln("test_vectors: reading failed")?;
     }
     if !run.writes {
-        io::write_all(STDERR_FILENO, b"test_vectors: writing failed\n");
+        rt.eprintln("test_vectors: writing failed")?;
     }
+    Ok(())
 }
 
-fn main() {
-    let count = os::arg_count();
-    let mut i: usize = 1;
-    while i < count {
-        run_named(i);
-        i += 1;
+// A name has at most 4,096 bytes.
+fn main(rt: HostRuntime) -> io::Result<()> {
+    let mut path = [0u8; 4096];
+    for i in 1..usize::MAX {
+        match rt.arg(i, &mut path) {
+            Ok(n) => match str::from_utf8(&path[..n]) {
+                Ok(name) => run_named(&rt, name)?,
+                Err(e) => eprintln!(rt; "argument {i}: {e}")?,
+            },
+            Err(FillError::NotPresent) => break,
+            Err(FillError::TooLong) => eprintln!(rt; "argument {i}: too long")?,
+        }
     }
+    Ok(())
 }
