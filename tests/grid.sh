@@ -73,23 +73,34 @@ mkdir "$tmp/bare"
 for tool in sh awk sed find dirname readlink printf cat dd timeout touch rm mkdir cp wc tr git chmod head sleep grep; do
     at=$(command -v "$tool") && ln -s "$at" "$tmp/bare/$tool" 2>/dev/null
 done
-# A stand-in for rt that says what rt says and puts the built program in place; and one that fails.
+# A stand-in for rt that says what rt says, puts the built program in place and runs it; and one that fails.
 mkdir "$tmp/stand-in" "$tmp/failing"
 cat >"$tmp/stand-in/rt" <<RT
 #!/bin/sh
 [ "\$1" = version ] && { echo another-kit; exit 0; }
+[ "\$*" = run ] && [ -f src/main.rt ] || exit 2
+exec 3>&1 >&2
+echo 'rt: chose --jobs 2 for base'
 echo 'fn base::nothing: proved'
-echo 'rt: base proved (1 s)'
-echo 'rt: pool proved (2 s)'
-mkdir -p target/bin && cp '$top/target/bin/grid_script' target/bin/
-echo 'rt: grid_script proved (3 s)'
+echo 'logic=proved functions=1'
+echo 'rt: chose --jobs 2 for pool'
+echo 'logic=proved functions=2'
+echo 'rt: chose --jobs 2 for grid_script'
+mkdir -p out && cp '$top/target/bin/grid_script' out/
+echo 'logic=proved functions=3'
+echo 'rt: running out/grid_script; to give it other input, run that file yourself'
+exec out/grid_script >&3
 RT
 cat >"$tmp/failing/rt" <<'RT'
 #!/bin/sh
+exec >&2
+echo 'rt: chose --jobs 2 for base'
 echo 'fn base::nothing: proved'
-echo 'rt: base proved (1 s)'
+echo 'logic=proved functions=1'
+echo 'rt: chose --jobs 2 for pool'
 echo 'error: this one is not so'
-echo 'rt: pool NOT PROVED (exit 1, 2 s)'
+echo 'logic=not-proved functions=1'
+echo 'rt: the library pool did not build, so nothing above it was checked'
 exit 1
 RT
 chmod +x "$tmp/stand-in/rt" "$tmp/failing/rt"
@@ -237,8 +248,10 @@ row 'without rt, not built: it says what to install' 1 '' 'install rattle-kit' w
 row 'a build that fails' 1 '' 'building failed' with "$tmp/failing" "$tmp/unbuilt"
 row '.. shows what rt said of the crate that failed' 1 '' 'this one is not so' with "$tmp/failing" "$tmp/unbuilt"
 row 'the first run proves and builds, and says so' 0 "$answers" 'proving and building' with "$tmp/stand-in" "$tmp/unbuilt"
+rm -r "$tmp/unbuilt/target" "$tmp/unbuilt/crates/grid_script/out"
+row '.. and shows which crate of how many' 0 "$answers" 'proved pool, 3 of [1-9][0-9]' with "$tmp/stand-in" "$tmp/unbuilt"
 rm -r "$tmp/unbuilt/target"
-row '.. and shows which crate of how many' 0 "$answers" 'proved pool, 2 of [1-9][0-9]' with "$tmp/stand-in" "$tmp/unbuilt"
+row 'a program that rt has made since is taken as it is' 0 "$answers" '' with "$tmp/failing" "$tmp/unbuilt"
 row 'the second run does not' 0 "$answers" '' with "$tmp/failing" "$tmp/unbuilt"
 touch -t 203001010000 "$tmp/unbuilt/crates/grid_script/src/main.rt"
 row 'after a change of a source it proves again' 0 "$answers" 'a source is newer' with "$tmp/stand-in" "$tmp/unbuilt"

@@ -113,7 +113,9 @@ awk 'function any(n) { seed = (seed * 16807) % 2147483647; return seed % n }
             else print substr("R,0,01,1,1 U,00 Q,1,2,3 C S,4294967296 U,4294967295 u,0 ", 1 + any(50), any(12))
         }
     }' >"$tmp/long"
-program=target/bin/grid_script
+# rt ci leaves the script program here, and ./grid there.
+program=crates/grid_script/out/grid_script
+[ -x "$program" ] || program=target/bin/grid_script
 if [ -x "$program" ]; then
     "$program" <"$tmp/long" >"$tmp/want"
     row 'a script of 60,000 lines, with the answers of the script program' "$tmp/want" "$tmp/calls" --script "$tmp/long"
