@@ -16,12 +16,12 @@ pub returns-then-updaters-at-gt-LAST_STAGE : goal.returns-then-updaters-at-gt-LA
 returns-then-updaters-at-gt-LAST_STAGE c =
     run_nameless _ c.args.lane (grid c.args.words.now c.args.times.now) c.args.updaters.now c.if-budget-eq0.false c.if-lane-ge-UPDATER_COUNT.false c.if-updaters-at-gt-LAST_STAGE.true
 
-pub returns-then-ran-eq0 : goal.returns-then-ran-eq0
-returns-then-ran-eq0 c =
-    run_still _ c.args.lane (grid c.args.words.now c.args.times.now) c.args.updaters.now c.if-budget-eq0.false c.if-lane-ge-UPDATER_COUNT.false c.if-updaters-at-gt-LAST_STAGE.false c.load_updater-u.result c.load_updater-u.ensures _ _ _ _
-    c.run_update-ran.ensures c.if-ran-eq0.true
-
 pub returns : goal.returns
 returns c =
     run_moved _ c.args.lane (grid c.args.words.now c.args.times.now) c.args.updaters.now c.if-budget-eq0.false c.if-lane-ge-UPDATER_COUNT.false c.if-updaters-at-gt-LAST_STAGE.false c.load_updater-u.result c.load_updater-u.ensures _ _ _ _
     c.run_update-ran.ensures (omega arith) _ c.store_updater.ensures
+
+pub returns-then-ran-eq0 : goal.returns-then-ran-eq0
+returns-then-ran-eq0 c =
+    run_still _ c.args.lane (grid c.args.words.now c.args.times.now) c.args.updaters.now c.if-budget-eq0.false c.if-lane-ge-UPDATER_COUNT.false c.if-updaters-at-gt-LAST_STAGE.false c.load_updater-u.result c.load_updater-u.ensures _ _ _ _
+    c.run_update-ran.ensures c.if-ran-eq0.true
