@@ -4,3 +4,4 @@ pub mod Numbers
 pub mod Tests
 pub mod Lane
 pub mod Runs
+pub mod Sized

@@ -14,7 +14,7 @@ loop-i-init c = (omega arith, all_none _)
 pub returns-then-not-is_idle : goal.returns-then-not-is_idle
 unfolding queries_idle
 returns-then-not-is_idle c =
-    sym (all_fails _ 4 _ c.loop-i-test.true
+    sym (all_fails _ 4 _ (omega arith)
     (sym c.is_idle.ensures ∙ c.if-not-is_idle.true))
 
 pub loop-i-preserved : goal.loop-i-preserved

@@ -1,12 +1,8 @@
 -- run_update does what `run_one` says: one law of Runs.antt for each run that makes no step, else as run_on does.
-use mathlib.Core.Path.{◌≡◌, sym, ◌∙◌}
-use mathlib.Core.Bool.{Bool, true}
-use lib.ListN.{length}
-use Rattle.words.specs.Map.{WORDS, TIMES}
-use Rattle.tables.specs.Tables.{right_lengths}
+use mathlib.Core.Path.{sym, ◌∙◌}
 use Rattle.tables.specs.Grid.{grid}
-use Rattle.tables.proofs.Grid.{grid_lengths, words_said}
 use Rattle.update_run.proofs.Runs.{run_nothing, run_sizes, run_lane, run_idle}
+use Rattle.calls.proofs.Sized.{sized, as_long}
 use Rattle.update_run.proofs.run_update.Goals as goal
 
 pub returns-then-budget-eq0 : goal.returns-then-budget-eq0
@@ -14,24 +10,19 @@ returns-then-budget-eq0 c = run_nothing _ _ (grid c.args.words.now c.args.times.
 
 pub returns-then-not-right_words : goal.returns-then-not-right_words
 returns-then-not-right_words c =
-    let sized : (b : Bool) → c.right_words.result ≡ b → right_lengths (grid c.args.words.now c.args.times.now) ≡ b = λ _ e. sym (grid_lengths c.args.words.now c.args.times.now) ∙ sym c.right_words.ensures ∙ e in
-    run_sizes _ _ (grid c.args.words.now c.args.times.now) _ c.if-budget-eq0.false (sized _ (c.if-not-right_words.true))
+    run_sizes _ _ (grid c.args.words.now c.args.times.now) _ c.if-budget-eq0.false (sized c.args.words.now c.args.times.now c.right_words.ensures ∙ c.if-not-right_words.true)
 
 pub returns-then-lane-ge-UPDATER_COUNT : goal.returns-then-lane-ge-UPDATER_COUNT
 returns-then-lane-ge-UPDATER_COUNT c =
-    let sized : (b : Bool) → c.right_words.result ≡ b → right_lengths (grid c.args.words.now c.args.times.now) ≡ b = λ _ e. sym (grid_lengths c.args.words.now c.args.times.now) ∙ sym c.right_words.ensures ∙ e in
-    run_lane _ _ (grid c.args.words.now c.args.times.now) _ c.if-budget-eq0.false (sized _ (c.if-not-right_words.false))
+    run_lane _ _ (grid c.args.words.now c.args.times.now) _ c.if-budget-eq0.false (sized c.args.words.now c.args.times.now c.right_words.ensures ∙ c.if-not-right_words.false)
     c.if-lane-ge-UPDATER_COUNT.true
 
 pub returns-then-is_idle : goal.returns-then-is_idle
 returns-then-is_idle c =
-    let sized : (b : Bool) → c.right_words.result ≡ b → right_lengths (grid c.args.words.now c.args.times.now) ≡ b = λ _ e. sym (grid_lengths c.args.words.now c.args.times.now) ∙ sym c.right_words.ensures ∙ e in
-    run_idle _ _ (grid c.args.words.now c.args.times.now) _ c.if-budget-eq0.false (sized _ (c.if-not-right_words.false))
+    run_idle _ _ (grid c.args.words.now c.args.times.now) _ c.if-budget-eq0.false (sized c.args.words.now c.args.times.now c.right_words.ensures ∙ c.if-not-right_words.false)
     c.if-lane-ge-UPDATER_COUNT.false (sym c.is_idle.ensures ∙ c.if-is_idle.true)
 
 pub run_on-requires : goal.run_on-requires
 run_on-requires c =
-    let sized : (b : Bool) → c.right_words.result ≡ b → right_lengths (grid c.args.words.now c.args.times.now) ≡ b = λ _ e. sym (grid_lengths c.args.words.now c.args.times.now) ∙ sym c.right_words.ensures ∙ e in
-    let lent : c.right_words.result ≡ true → (length c.args.words.now ≡ WORDS) × (length c.args.times.now ≡ TIMES) = λ e. words_said c.args.words.now c.args.times.now (sized _ e) in
-    let n = lent (c.if-not-right_words.false) in
+    let n = as_long c.args.words.now c.args.times.now c.right_words.ensures c.if-not-right_words.false in
     (n.0, n.1, c.if-lane-ge-UPDATER_COUNT.false, sym c.is_idle.ensures ∙ c.if-is_idle.false)

@@ -1,85 +1,64 @@
 -- start_one does what `start_one` says: one law of Steps.antt for each return, on the tables that were lent.
-use mathlib.Core.Path.{◌≡◌, sym, ◌∙◌}
-use mathlib.Core.Bool.{Bool, true}
+use mathlib.Core.Path.{sym, ◌∙◌}
 use native.Mathlib.Omega.{arith}
-use lib.ListN.{length}
-use Rattle.words.specs.Map.{WORDS, TIMES}
-use Rattle.tables.specs.Tables.{right_lengths}
 use Rattle.tables.specs.Grid.{grid}
-use Rattle.tables.proofs.Grid.{grid_lengths, words_said, set_clock}
+use Rattle.tables.proofs.Grid.{set_clock}
 use Rattle.regions.proofs.Checks.{checked_accepted, checked_off, checked_crossed, checked_wide}
 use Rattle.queries.proofs.Steps.{start_sizes, start_lane, start_taken, start_off, start_crossed, start_wide, start_spent, start_done, as_tables}
+use Rattle.calls.proofs.Sized.{sized, as_long}
 use Rattle.queries.proofs.start.start_one.Goals as goal
 
 pub returns-then-not-right_words : goal.returns-then-not-right_words
 returns-then-not-right_words c =
-    let sized : (b : Bool) → c.right_words.result ≡ b → right_lengths (grid c.args.words.now c.args.times.now) ≡ b = λ _ e. sym (grid_lengths c.args.words.now c.args.times.now) ∙ sym c.right_words.ensures ∙ e in
-    start_sizes (grid c.args.words.now c.args.times.now) _ _ _ (sized _ (c.if-not-right_words.true))
+    start_sizes (grid c.args.words.now c.args.times.now) _ _ _ (sized c.args.words.now c.args.times.now c.right_words.ensures ∙ c.if-not-right_words.true)
 
 pub returns-then-lane-ge-QUERY_COUNT : goal.returns-then-lane-ge-QUERY_COUNT
 returns-then-lane-ge-QUERY_COUNT c =
-    let sized : (b : Bool) → c.right_words.result ≡ b → right_lengths (grid c.args.words.now c.args.times.now) ≡ b = λ _ e. sym (grid_lengths c.args.words.now c.args.times.now) ∙ sym c.right_words.ensures ∙ e in
-    start_lane (grid c.args.words.now c.args.times.now) _ _ _ (sized _
-    (c.if-not-right_words.false)) c.if-lane-ge-QUERY_COUNT.true
+    start_lane (grid c.args.words.now c.args.times.now) _ _ _ (sized c.args.words.now c.args.times.now c.right_words.ensures ∙ c.if-not-right_words.false) c.if-lane-ge-QUERY_COUNT.true
 
 pub returns-then-not-is_idle : goal.returns-then-not-is_idle
 returns-then-not-is_idle c =
-    let sized : (b : Bool) → c.right_words.result ≡ b → right_lengths (grid c.args.words.now c.args.times.now) ≡ b = λ _ e. sym (grid_lengths c.args.words.now c.args.times.now) ∙ sym c.right_words.ensures ∙ e in
-    start_taken (grid c.args.words.now c.args.times.now) _ _ _ (sized _
-    (c.if-not-right_words.false)) c.if-lane-ge-QUERY_COUNT.false
+    start_taken (grid c.args.words.now c.args.times.now) _ _ _ (sized c.args.words.now c.args.times.now c.right_words.ensures ∙ c.if-not-right_words.false) c.if-lane-ge-QUERY_COUNT.false
     (sym c.is_idle.ensures ∙ c.if-not-is_idle.true)
 
 pub returns-in-OffGrid : goal.returns-in-OffGrid
 returns-in-OffGrid c =
-    let sized : (b : Bool) → c.right_words.result ≡ b → right_lengths (grid c.args.words.now c.args.times.now) ≡ b = λ _ e. sym (grid_lengths c.args.words.now c.args.times.now) ∙ sym c.right_words.ensures ∙ e in
-    start_off (grid c.args.words.now c.args.times.now) _ _ _ (sized _ (c.if-not-right_words.false)) c.if-lane-ge-QUERY_COUNT.false (sym c.is_idle.ensures ∙ c.if-not-is_idle.false)
+    start_off (grid c.args.words.now c.args.times.now) _ _ _ (sized c.args.words.now c.args.times.now c.right_words.ensures ∙ c.if-not-right_words.false) c.if-lane-ge-QUERY_COUNT.false (sym c.is_idle.ensures ∙ c.if-not-is_idle.false)
     (checked_off _ c.check_region-checked.ensures c.in-OffGrid.is)
 
 pub returns-in-Crossed : goal.returns-in-Crossed
 returns-in-Crossed c =
-    let sized : (b : Bool) → c.right_words.result ≡ b → right_lengths (grid c.args.words.now c.args.times.now) ≡ b = λ _ e. sym (grid_lengths c.args.words.now c.args.times.now) ∙ sym c.right_words.ensures ∙ e in
-    start_crossed (grid c.args.words.now c.args.times.now) _ _ _ (sized _
-    (c.if-not-right_words.false)) c.if-lane-ge-QUERY_COUNT.false
+    start_crossed (grid c.args.words.now c.args.times.now) _ _ _ (sized c.args.words.now c.args.times.now c.right_words.ensures ∙ c.if-not-right_words.false) c.if-lane-ge-QUERY_COUNT.false
     (sym c.is_idle.ensures ∙ c.if-not-is_idle.false)
     (checked_crossed _ c.check_region-checked.ensures c.in-Crossed.is)
 
 pub returns-in-Wide : goal.returns-in-Wide
 returns-in-Wide c =
-    let sized : (b : Bool) → c.right_words.result ≡ b → right_lengths (grid c.args.words.now c.args.times.now) ≡ b = λ _ e. sym (grid_lengths c.args.words.now c.args.times.now) ∙ sym c.right_words.ensures ∙ e in
-    start_wide (grid c.args.words.now c.args.times.now) _ _ _ (sized _
-    (c.if-not-right_words.false)) c.if-lane-ge-QUERY_COUNT.false
+    start_wide (grid c.args.words.now c.args.times.now) _ _ _ (sized c.args.words.now c.args.times.now c.right_words.ensures ∙ c.if-not-right_words.false) c.if-lane-ge-QUERY_COUNT.false
     (sym c.is_idle.ensures ∙ c.if-not-is_idle.false)
     (checked_wide _ c.check_region-checked.ensures c.in-Wide.is)
 
 pub bounds-words-16384 : goal.bounds-words-16384
 bounds-words-16384 c =
-    let sized : (b : Bool) → c.right_words.result ≡ b → right_lengths (grid c.args.words.now c.args.times.now) ≡ b = λ _ e. sym (grid_lengths c.args.words.now c.args.times.now) ∙ sym c.right_words.ensures ∙ e in
-    let lent : c.right_words.result ≡ true → (length c.args.words.now ≡ WORDS) × (length c.args.times.now ≡ TIMES) = λ e. words_said c.args.words.now c.args.times.now (sized _ e) in
-    omega (arith, (lent (c.if-not-right_words.false)).0)
+    omega (arith, (as_long c.args.words.now c.args.times.now c.right_words.ensures c.if-not-right_words.false).0)
 
 pub returns-then-clock-ge-CLOCK_SPENT : goal.returns-then-clock-ge-CLOCK_SPENT
 unfolding grid
 returns-then-clock-ge-CLOCK_SPENT c =
-    let sized : (b : Bool) → c.right_words.result ≡ b → right_lengths (grid c.args.words.now c.args.times.now) ≡ b = λ _ e. sym (grid_lengths c.args.words.now c.args.times.now) ∙ sym c.right_words.ensures ∙ e in
-    start_spent (grid c.args.words.now c.args.times.now) _ _ _ (sized _
-    (c.if-not-right_words.false)) c.if-lane-ge-QUERY_COUNT.false
+    start_spent (grid c.args.words.now c.args.times.now) _ _ _ (sized c.args.words.now c.args.times.now c.right_words.ensures ∙ c.if-not-right_words.false) c.if-lane-ge-QUERY_COUNT.false
     (sym c.is_idle.ensures ∙ c.if-not-is_idle.false)
     (checked_accepted _ c.check_region-checked.ensures c.in-Accepted.is)
     c.if-clock-ge-CLOCK_SPENT.true
 
 pub bounds-words-16384-2 : goal.bounds-words-16384-2
 bounds-words-16384-2 c =
-    let sized : (b : Bool) → c.right_words.result ≡ b → right_lengths (grid c.args.words.now c.args.times.now) ≡ b = λ _ e. sym (grid_lengths c.args.words.now c.args.times.now) ∙ sym c.right_words.ensures ∙ e in
-    let lent : c.right_words.result ≡ true → (length c.args.words.now ≡ WORDS) × (length c.args.times.now ≡ TIMES) = λ e. words_said c.args.words.now c.args.times.now (sized _ e) in
-    omega (arith, (lent (c.if-not-right_words.false)).0)
+    omega (arith, (as_long c.args.words.now c.args.times.now c.right_words.ensures c.if-not-right_words.false).0)
 
 pub returns : goal.returns
 unfolding grid
 returns c =
-    let sized : (b : Bool) → c.right_words.result ≡ b → right_lengths (grid c.args.words.now c.args.times.now) ≡ b = λ _ e. sym (grid_lengths c.args.words.now c.args.times.now) ∙ sym c.right_words.ensures ∙ e in
-    let lent : c.right_words.result ≡ true → (length c.args.words.now ≡ WORDS) × (length c.args.times.now ≡ TIMES) = λ e. words_said c.args.words.now c.args.times.now (sized _ e) in
-    start_done (grid c.args.words.now c.args.times.now) _ _ _ (sized _ (c.if-not-right_words.false)) c.if-lane-ge-QUERY_COUNT.false (sym c.is_idle.ensures ∙ c.if-not-is_idle.false)
+    start_done (grid c.args.words.now c.args.times.now) _ _ _ (sized c.args.words.now c.args.times.now c.right_words.ensures ∙ c.if-not-right_words.false) c.if-lane-ge-QUERY_COUNT.false (sym c.is_idle.ensures ∙ c.if-not-is_idle.false)
     (checked_accepted _ c.check_region-checked.ensures c.in-Accepted.is)
     c.if-clock-ge-CLOCK_SPENT.false _ c.first_cell-visit.ensures ∙ as_tables 0 _
     (sym (set_clock c.args.words.now c.args.times.now
-    (lent (c.if-not-right_words.false)).0 _))
+    (as_long c.args.words.now c.args.times.now c.right_words.ensures c.if-not-right_words.false).0 _))

@@ -1,73 +1,52 @@
 -- start_one does what `start_one` says: one law of Steps.antt for each return, on the tables that were lent.
-use mathlib.Core.Path.{◌≡◌, sym, ◌∙◌}
-use mathlib.Core.Bool.{Bool, true}
+use mathlib.Core.Path.{sym, ◌∙◌}
 use native.Mathlib.Omega.{arith}
-use lib.ListN.{length}
-use Rattle.words.specs.Map.{WORDS, TIMES}
-use Rattle.tables.specs.Tables.{right_lengths}
 use Rattle.tables.specs.Grid.{grid}
-use Rattle.tables.proofs.Grid.{grid_lengths, words_said}
 use Rattle.updates.proofs.Steps.{room_told, start_sizes, start_lane, start_taken, start_nobody, start_off, start_over, start_full, start_spent, start_corrupt, start_done}
+use Rattle.calls.proofs.Sized.{sized, as_long}
 use Rattle.updates.proofs.start.start_one.Goals as goal
 
 pub returns-then-not-right_words : goal.returns-then-not-right_words
 returns-then-not-right_words c =
-    let sized : (b : Bool) → c.right_words.result ≡ b → right_lengths (grid c.args.words.now c.args.times.now) ≡ b = λ _ e. sym (grid_lengths c.args.words.now c.args.times.now) ∙ sym c.right_words.ensures ∙ e in
-    start_sizes (grid c.args.words.now c.args.times.now) _ _ _ _ _ _ (sized _ (c.if-not-right_words.true))
+    start_sizes (grid c.args.words.now c.args.times.now) _ _ _ _ _ _ (sized c.args.words.now c.args.times.now c.right_words.ensures ∙ c.if-not-right_words.true)
 
 pub returns-then-lane-ge-UPDATER_COUNT : goal.returns-then-lane-ge-UPDATER_COUNT
 returns-then-lane-ge-UPDATER_COUNT c =
-    let sized : (b : Bool) → c.right_words.result ≡ b → right_lengths (grid c.args.words.now c.args.times.now) ≡ b = λ _ e. sym (grid_lengths c.args.words.now c.args.times.now) ∙ sym c.right_words.ensures ∙ e in
-    start_lane (grid c.args.words.now c.args.times.now) _ _ _ _ _ _ (sized _
-    (c.if-not-right_words.false)) c.if-lane-ge-UPDATER_COUNT.true
+    start_lane (grid c.args.words.now c.args.times.now) _ _ _ _ _ _ (sized c.args.words.now c.args.times.now c.right_words.ensures ∙ c.if-not-right_words.false) c.if-lane-ge-UPDATER_COUNT.true
 
 pub returns-then-not-is_idle : goal.returns-then-not-is_idle
 returns-then-not-is_idle c =
-    let sized : (b : Bool) → c.right_words.result ≡ b → right_lengths (grid c.args.words.now c.args.times.now) ≡ b = λ _ e. sym (grid_lengths c.args.words.now c.args.times.now) ∙ sym c.right_words.ensures ∙ e in
-    start_taken (grid c.args.words.now c.args.times.now) _ _ _ _ _ _ (sized _
-    (c.if-not-right_words.false)) c.if-lane-ge-UPDATER_COUNT.false
+    start_taken (grid c.args.words.now c.args.times.now) _ _ _ _ _ _ (sized c.args.words.now c.args.times.now c.right_words.ensures ∙ c.if-not-right_words.false) c.if-lane-ge-UPDATER_COUNT.false
     (sym c.is_idle.ensures ∙ c.if-not-is_idle.true)
 
 pub returns-then-oid-eq0 : goal.returns-then-oid-eq0
 returns-then-oid-eq0 c =
-    let sized : (b : Bool) → c.right_words.result ≡ b → right_lengths (grid c.args.words.now c.args.times.now) ≡ b = λ _ e. sym (grid_lengths c.args.words.now c.args.times.now) ∙ sym c.right_words.ensures ∙ e in
-    start_nobody (grid c.args.words.now c.args.times.now) _ _ _ _ _ _ (sized _
-    (c.if-not-right_words.false)) c.if-lane-ge-UPDATER_COUNT.false
+    start_nobody (grid c.args.words.now c.args.times.now) _ _ _ _ _ _ (sized c.args.words.now c.args.times.now c.right_words.ensures ∙ c.if-not-right_words.false) c.if-lane-ge-UPDATER_COUNT.false
     (sym c.is_idle.ensures ∙ c.if-not-is_idle.false) c.if-oid-eq0.true
 
 pub returns-then-not-on_grid : goal.returns-then-not-on_grid
 returns-then-not-on_grid c =
-    let sized : (b : Bool) → c.right_words.result ≡ b → right_lengths (grid c.args.words.now c.args.times.now) ≡ b = λ _ e. sym (grid_lengths c.args.words.now c.args.times.now) ∙ sym c.right_words.ensures ∙ e in
-    start_off (grid c.args.words.now c.args.times.now) _ _ _ _ _ _ (sized _
-    (c.if-not-right_words.false)) c.if-lane-ge-UPDATER_COUNT.false
+    start_off (grid c.args.words.now c.args.times.now) _ _ _ _ _ _ (sized c.args.words.now c.args.times.now c.right_words.ensures ∙ c.if-not-right_words.false) c.if-lane-ge-UPDATER_COUNT.false
     (sym c.is_idle.ensures ∙ c.if-not-is_idle.false)
     c.if-oid-eq0.false (sym c.on_grid.ensures ∙ c.if-not-on_grid.true)
 
 pub returns-then-tag-gt-LAST_TAG : goal.returns-then-tag-gt-LAST_TAG
 returns-then-tag-gt-LAST_TAG c =
-    let sized : (b : Bool) → c.right_words.result ≡ b → right_lengths (grid c.args.words.now c.args.times.now) ≡ b = λ _ e. sym (grid_lengths c.args.words.now c.args.times.now) ∙ sym c.right_words.ensures ∙ e in
-    start_over (grid c.args.words.now c.args.times.now) _ _ _ _ _ _ (sized _
-    (c.if-not-right_words.false)) c.if-lane-ge-UPDATER_COUNT.false
+    start_over (grid c.args.words.now c.args.times.now) _ _ _ _ _ _ (sized c.args.words.now c.args.times.now c.right_words.ensures ∙ c.if-not-right_words.false) c.if-lane-ge-UPDATER_COUNT.false
     (sym c.is_idle.ensures ∙ c.if-not-is_idle.false)
     c.if-oid-eq0.false (sym c.on_grid.ensures ∙ c.if-not-on_grid.false) c.if-tag-gt-LAST_TAG.true
 
 pub seek_object-place-requires : goal.seek_object-place-requires
 seek_object-place-requires c =
-    let sized : (b : Bool) → c.right_words.result ≡ b → right_lengths (grid c.args.words.now c.args.times.now) ≡ b = λ _ e. sym (grid_lengths c.args.words.now c.args.times.now) ∙ sym c.right_words.ensures ∙ e in
-    let lent : c.right_words.result ≡ true → (length c.args.words.now ≡ WORDS) × (length c.args.times.now ≡ TIMES) = λ e. words_said c.args.words.now c.args.times.now (sized _ e) in
-    (lent (c.if-not-right_words.false)).0
+    (as_long c.args.words.now c.args.times.now c.right_words.ensures c.if-not-right_words.false).0
 
 pub has_room-requires : goal.has_room-requires
 has_room-requires c =
-    let sized : (b : Bool) → c.right_words.result ≡ b → right_lengths (grid c.args.words.now c.args.times.now) ≡ b = λ _ e. sym (grid_lengths c.args.words.now c.args.times.now) ∙ sym c.right_words.ensures ∙ e in
-    let lent : c.right_words.result ≡ true → (length c.args.words.now ≡ WORDS) × (length c.args.times.now ≡ TIMES) = λ e. words_said c.args.words.now c.args.times.now (sized _ e) in
-    (lent (c.if-not-right_words.false)).0
+    (as_long c.args.words.now c.args.times.now c.right_words.ensures c.if-not-right_words.false).0
 
 pub returns-then-not-has_room : goal.returns-then-not-has_room
 returns-then-not-has_room c =
-    let sized : (b : Bool) → c.right_words.result ≡ b → right_lengths (grid c.args.words.now c.args.times.now) ≡ b = λ _ e. sym (grid_lengths c.args.words.now c.args.times.now) ∙ sym c.right_words.ensures ∙ e in
-    start_full (grid c.args.words.now c.args.times.now) _ _ _ _ _ _ (sized _
-    (c.if-not-right_words.false)) c.if-lane-ge-UPDATER_COUNT.false
+    start_full (grid c.args.words.now c.args.times.now) _ _ _ _ _ _ (sized c.args.words.now c.args.times.now c.right_words.ensures ∙ c.if-not-right_words.false) c.if-lane-ge-UPDATER_COUNT.false
     (sym c.is_idle.ensures ∙ c.if-not-is_idle.false)
     c.if-oid-eq0.false (sym c.on_grid.ensures ∙ c.if-not-on_grid.false) (omega arith) (room_told (grid c.args.words.now c.args.times.now) _ c.seek_object-place.result
     (c.seek_object-place.ensures c.args.times.now)
@@ -75,35 +54,27 @@ returns-then-not-has_room c =
 
 pub bounds-words-16384 : goal.bounds-words-16384
 bounds-words-16384 c =
-    let sized : (b : Bool) → c.right_words.result ≡ b → right_lengths (grid c.args.words.now c.args.times.now) ≡ b = λ _ e. sym (grid_lengths c.args.words.now c.args.times.now) ∙ sym c.right_words.ensures ∙ e in
-    let lent : c.right_words.result ≡ true → (length c.args.words.now ≡ WORDS) × (length c.args.times.now ≡ TIMES) = λ e. words_said c.args.words.now c.args.times.now (sized _ e) in
-    omega (arith, (lent (c.if-not-right_words.false)).0)
+    omega (arith, (as_long c.args.words.now c.args.times.now c.right_words.ensures c.if-not-right_words.false).0)
 
 pub returns-then-words-ge-CLOCK_SPENT : goal.returns-then-words-ge-CLOCK_SPENT
 unfolding grid
 returns-then-words-ge-CLOCK_SPENT c =
-    let sized : (b : Bool) → c.right_words.result ≡ b → right_lengths (grid c.args.words.now c.args.times.now) ≡ b = λ _ e. sym (grid_lengths c.args.words.now c.args.times.now) ∙ sym c.right_words.ensures ∙ e in
-    start_spent (grid c.args.words.now c.args.times.now) _ _ _ _ _ _ (sized _
-    (c.if-not-right_words.false)) c.if-lane-ge-UPDATER_COUNT.false
+    start_spent (grid c.args.words.now c.args.times.now) _ _ _ _ _ _ (sized c.args.words.now c.args.times.now c.right_words.ensures ∙ c.if-not-right_words.false) c.if-lane-ge-UPDATER_COUNT.false
     (sym c.is_idle.ensures ∙ c.if-not-is_idle.false)
     c.if-oid-eq0.false (sym c.on_grid.ensures ∙ c.if-not-on_grid.false) (omega arith) (room_told (grid c.args.words.now c.args.times.now) _ c.seek_object-place.result
     (c.seek_object-place.ensures c.args.times.now)
     (c.has_room.ensures c.args.times.now ∙ c.if-not-has_room.false)) c.if-words-ge-CLOCK_SPENT.true
 
 pub enter_there-entered-requires : goal.enter_there-entered-requires
-enter_there-entered-requires c =
-    let sized : (b : Bool) → c.right_words.result ≡ b → right_lengths (grid c.args.words.now c.args.times.now) ≡ b = λ _ e. sym (grid_lengths c.args.words.now c.args.times.now) ∙ sym c.right_words.ensures ∙ e in
-    let lent : c.right_words.result ≡ true → (length c.args.words.now ≡ WORDS) × (length c.args.times.now ≡ TIMES) = λ e. words_said c.args.words.now c.args.times.now (sized _ e) in (
-      (lent (c.if-not-right_words.false)).0,
-      c.seek_object-place.ensures,
-    )
+enter_there-entered-requires c = (
+  (as_long c.args.words.now c.args.times.now c.right_words.ensures c.if-not-right_words.false).0,
+  c.seek_object-place.ensures,
+)
 
 pub returns-in_default : goal.returns-in_default
 unfolding grid
 returns-in_default c =
-    let sized : (b : Bool) → c.right_words.result ≡ b → right_lengths (grid c.args.words.now c.args.times.now) ≡ b = λ _ e. sym (grid_lengths c.args.words.now c.args.times.now) ∙ sym c.right_words.ensures ∙ e in
-    start_corrupt (grid c.args.words.now c.args.times.now) _ _ _ _ _ _ (sized _
-    (c.if-not-right_words.false)) c.if-lane-ge-UPDATER_COUNT.false
+    start_corrupt (grid c.args.words.now c.args.times.now) _ _ _ _ _ _ (sized c.args.words.now c.args.times.now c.right_words.ensures ∙ c.if-not-right_words.false) c.if-lane-ge-UPDATER_COUNT.false
     (sym c.is_idle.ensures ∙ c.if-not-is_idle.false)
     c.if-oid-eq0.false (sym c.on_grid.ensures ∙ c.if-not-on_grid.false) (omega arith) (room_told (grid c.args.words.now c.args.times.now) _ c.seek_object-place.result
     (c.seek_object-place.ensures c.args.times.now)
@@ -113,9 +84,7 @@ returns-in_default c =
 pub returns : goal.returns
 unfolding grid
 returns c =
-    let sized : (b : Bool) → c.right_words.result ≡ b → right_lengths (grid c.args.words.now c.args.times.now) ≡ b = λ _ e. sym (grid_lengths c.args.words.now c.args.times.now) ∙ sym c.right_words.ensures ∙ e in
-    start_done (grid c.args.words.now c.args.times.now) _ _ _ _ _ _ (sized _
-    (c.if-not-right_words.false)) c.if-lane-ge-UPDATER_COUNT.false
+    start_done (grid c.args.words.now c.args.times.now) _ _ _ _ _ _ (sized c.args.words.now c.args.times.now c.right_words.ensures ∙ c.if-not-right_words.false) c.if-lane-ge-UPDATER_COUNT.false
     (sym c.is_idle.ensures ∙ c.if-not-is_idle.false)
     c.if-oid-eq0.false (sym c.on_grid.ensures ∙ c.if-not-on_grid.false) (omega arith) (room_told (grid c.args.words.now c.args.times.now) _ c.seek_object-place.result
     (c.seek_object-place.ensures c.args.times.now)
