@@ -4,6 +4,13 @@ use Rattle.pool.specs.Pool.{refill}
 use Rattle.grid.proofs.Emptied.{pool_refused, pools_length, to_empty}
 use Rattle.grid.proofs.reset.empty_words.Goals as goal
 
+pub returns : goal.returns
+returns c =
+    to_empty c.args.words.now _ c.requires c.fill_numbers.ensures _
+    c.fill_numbers-2.ensures _ c.fill_numbers-3.ensures _
+    c.fill_numbers-4.ensures _ (changed_done _ _ (refill _)
+    c.refill_pool.ensures c.in-Done.is)
+
 pub shape_of-words-in_default : goal.shape_of-words-in_default
 shape_of-words-in_default c =
     absurd (pool_refused c.args.words.now _ c.requires c.fill_numbers.ensures _
@@ -21,13 +28,6 @@ returns-in_default c =
 pub shape_of-words : goal.shape_of-words
 shape_of-words c =
     pools_length c.args.words.now _ c.requires c.fill_numbers.ensures _
-    c.fill_numbers-2.ensures _ c.fill_numbers-3.ensures _
-    c.fill_numbers-4.ensures _ (changed_done _ _ (refill _)
-    c.refill_pool.ensures c.in-Done.is)
-
-pub returns : goal.returns
-returns c =
-    to_empty c.args.words.now _ c.requires c.fill_numbers.ensures _
     c.fill_numbers-2.ensures _ c.fill_numbers-3.ensures _
     c.fill_numbers-4.ensures _ (changed_done _ _ (refill _)
     c.refill_pool.ensures c.in-Done.is)
