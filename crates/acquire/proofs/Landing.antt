@@ -3,15 +3,33 @@ use mathlib.Core.Path.{◌≡◌, refl, sym, ap, ◌∙◌}
 use mathlib.Core.List.{List}
 use Prim.Native.Nat.{ℕ}
 use lib.ListN.{length}
-use Rattle.base.specs.Outcome.{Told, Outcome, corrupt, blocked, done, leaves, ended, nothing}
-use Rattle.base.specs.Step.{Said, turned, lift}
+use Rattle.std.specs.Prelude.{Ok, Err, ⊤}
+use Rattle.base.specs.Outcome.{Told, Outcome, corrupt, blocked, done, and_then, tells, leaves, ended, nothing}
+use Rattle.base.proofs.Outcome.{told_corrupt, told_blocked, told_done}
+use Rattle.base.specs.Answer.{attempt_of}
+use Rattle.base.specs.declared.Stop.{Stop}
+use Rattle.base.specs.declared.Stop.TheVariants.{Corrupt as StopCorrupt, Blocked}
+use Rattle.locks.specs.Lock.{look}
+use Rattle.base.specs.Step.{Said, turned, turn_tells, turn_leaves, lift}
 use Rattle.base.proofs.Step.{lifted}
 use Rattle.words.specs.Map.{COUNT}
 use Rattle.words.specs.Part.{part, put}
 use Rattle.index.specs.Index.{Index, index_at, with_lock}
 use Rattle.index.proofs.Room.{put_lock_lem}
-use Rattle.stage.specs.Turn.{Move}
+use Rattle.stage.specs.Turn.{Move, turn_says}
 use Rattle.stage.specs.declared.Stage.{Stage}
+
+-- what the answer of look_lock says
+pub lock_free : (l : List ℕ) (i : ℕ) {x : ⊤} → tells nothing (look l i) ≡ tells nothing (attempt_of (Ok x)) → (l' : List ℕ) × (look l i ≡ done l')
+unfolding tells
+lock_free l i e = let d = told_done nothing (look l i) e in (d.0, d.1)
+
+-- a step that begins with a look at a lock ends as the look does, unless it is free
+pub lock_stopped : (l : List ℕ) (i : ℕ) (k : List ℕ → Outcome (Move (List ℕ))) (x : Stop)
+    → tells nothing (look l i) ≡ tells nothing (attempt_of {A = ⊤} (Err x)) → turned l (and_then (look l i) k) ≡ (turn_says (Err x), l)
+unfolding tells and_then turn_tells turn_leaves
+lock_stopped l i k StopCorrupt e = rw (told_corrupt nothing (look l i) e)
+lock_stopped l i k Blocked e = rw (told_blocked nothing (look l i) e)
 
 leaves_on : {A B : Type 0} (g : A → B) (a : A) (o : Outcome A) → leaves g (g a) o ≡ g (leaves (λ (x : A). x) a o)
 unfolding leaves

@@ -2,7 +2,7 @@
 -- no stamp; what is read tells both the same.
 use mathlib.Core.Path.{◌≡◌, refl, sym, ap, ◌∙◌}
 use mathlib.Core.Bool.{Bool, true, false, not}
-use mathlib.Core.Option.{Option, none, some}
+use Rattle.std.specs.Prelude.{Option, None, Some}
 use mathlib.Core.List.{List}
 use Prim.Native.Nat.{ℕ, suc, ◌-◌, ◌*◌}
 use lib.Dec.{eqb, ltb}
@@ -42,8 +42,8 @@ pub record Resembles (s s' : ℕ) (v v' : Seen) : Type 0 where
 enlist_same : (h : Hits) (l n a : ℕ) (v : Seen) (o : Option ℕ) → enlist h l n
     (record { oid = v.oid; x = v.x; y = v.y; tag = v.tag; deleted = v.deleted; time = a }) o ≡ enlist h l n v o
 unfolding enlist
-enlist_same h l n a v (some i) = refl
-enlist_same h l n a v none = refl
+enlist_same h l n a v (Some i) = refl
+enlist_same h l n a v None = refl
 
 note_same : (h : Hits) (l n : ℕ) {s s' : ℕ} {v v' : Seen} → Resembles s s' v v' → note h l n v' ≡ note h l n v
 unfolding note

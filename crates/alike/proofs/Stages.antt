@@ -4,7 +4,7 @@
 -- draw one.
 use mathlib.Core.Path.{◌≡◌, refl, ap, ◌∙◌}
 use mathlib.Core.Bool.{Bool, true}
-use mathlib.Core.Option.{Option, none, some}
+use Rattle.std.specs.Prelude.{Option, None, Some}
 use mathlib.Core.List.{List}
 use Prim.Native.Nat.{ℕ, ◌+◌, ◌<◌}
 use native.Mathlib.Omega.{arith}
@@ -207,8 +207,8 @@ module _ (O : ℕ → ℕ → Type 0) (t : Tables) (ts : List ℤ) (c : ℕ) (A 
   chooses : (q : Option Place) → Meet (Steps (λ (s s' : Stage). s' ≡ s) Placed)
       (choose d₀ q u.oid u.x u.y u.tag o) (choose d₁ q u.oid u.x u.y u.tag o)
   unfolding choose
-  chooses none = locks_new (cell_of u.x u.y)
-  chooses (some p) = meet_pick (eqb p.cell (cell_of u.x u.y)) (rewrites p) (locks_new (cell_of u.x u.y))
+  chooses None = locks_new (cell_of u.x u.y)
+  chooses (Some p) = meet_pick (eqb p.cell (cell_of u.x u.y)) (rewrites p) (locks_new (cell_of u.x u.y))
 
   places : Goes (stage_on t o u ChooseCell) (stage_on t' o u ChooseCell)
   unfolding stage_on stage8

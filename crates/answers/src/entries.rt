@@ -11,22 +11,14 @@ pub fn print_entries(out: &mut [u8], at: usize, list: &[u32], entries: usize) ->
     ensures { Printed out.old at (entry_lines list.now entries) out.new result }
 {
     let mut place = at;
-    let mut i: usize = 0;
-    while i < entries {
-        place = print_entry(
-            out,
-            place,
-            list[4 * i],
-            list[4 * i + 1],
-            list[4 * i + 2],
-            list[4 * i + 3],
-        );
-        i += 1;
+    for &[oid, x, y, tag] in list[..4 * entries].as_chunks::<4>().0 {
+        place = print_entry(out, place, oid, x, y, tag);
     }
     place
 }
 
 // All that is printed for an accepted collection.
+#[tactic(auto, using(crate::proofs::Printing::collected_short))]
 pub fn print_collection(
     out: &mut [u8],
     at: usize,

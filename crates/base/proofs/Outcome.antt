@@ -5,7 +5,7 @@ use mathlib.Core.List.{List}
 use Prim.Native.Nat.{ℕ}
 use native.Mathlib.Omega.{arith}
 use Rattle.base.proofs.Table.{clash}
-use Rattle.base.specs.Outcome.{Told, says, Outcome, corrupt, blocked, done, need, await, and_then, tells, leaves, ended}
+use Rattle.base.specs.Outcome.{Told, says, Outcome, corrupt, blocked, done, need, awaits, and_then, tells, leaves, ended}
 
 -- ---- who was told the number knows the outcome
 
@@ -60,10 +60,10 @@ unfolding need
 need_done true k e = (refl, e)
 need_done false k e = clash (cc)
 
-pub await_done : {A : Type 0} {a : A} (b : Bool) (k : Outcome A) → await b k ≡ done a → (b ≡ true) × (k ≡ done a)
-unfolding await
-await_done true k e = (refl, e)
-await_done false k e = clash (cc)
+pub awaits_done : {A : Type 0} {a : A} (b : Bool) (k : Outcome A) → awaits b k ≡ done a → (b ≡ true) × (k ≡ done a)
+unfolding awaits
+awaits_done true k e = (refl, e)
+awaits_done false k e = clash (cc)
 
 pub then_done : {A B : Type 0} {b : B} (o : Outcome A) (k : A → Outcome B) → and_then o k ≡ done b → (a : A) × (o ≡ done a) × (k a ≡ done b)
 unfolding and_then
@@ -76,9 +76,9 @@ pub need_true : {A : Type 0} (b : Bool) (k : Outcome A) → b ≡ true → need 
 unfolding need
 need_true b k e = rw e
 
-pub await_true : {A : Type 0} (b : Bool) (k : Outcome A) → b ≡ true → await b k ≡ k
-unfolding await
-await_true b k e = rw e
+pub awaits_true : {A : Type 0} (b : Bool) (k : Outcome A) → b ≡ true → awaits b k ≡ k
+unfolding awaits
+awaits_true b k e = rw e
 
 pub then_true : {A B : Type 0} {a : A} (o : Outcome A) (k : A → Outcome B) → o ≡ done a → and_then o k ≡ k a
 unfolding and_then

@@ -1,6 +1,6 @@
 -- Laws of steps: a step on its own tables tells the same on all of them, and who was told knows how it ended.
 use mathlib.Core.Path.{◌≡◌, refl, ap}
-use mathlib.Core.Option.{Option, some}
+use Rattle.std.specs.Prelude.{Option, Some}
 use native.Mathlib.Omega.{arith}
 use Rattle.base.specs.Outcome.{Outcome, corrupt, blocked, done}
 use Rattle.base.specs.Step.{Said, said, Step, turn_tells, turn_leaves, turned, told, lift}
@@ -35,8 +35,8 @@ module _ {S : Type 0} where
   said_corrupt blocked e = absurd (omega (arith, number_of e))
   said_corrupt (done s) e = absurd (omega (arith, number_of e))
 
-  pub said_done : (o : Outcome S) {s : S} → told o ≡ said 0 (some s) → o ≡ done s
+  pub said_done : (o : Outcome S) {s : S} → told o ≡ said 0 (Some s) → o ≡ done s
   unfolding told
   said_done corrupt e = absurd (omega (arith, number_of e))
   said_done blocked e = absurd (omega (arith, number_of e))
-  said_done (done r) {s} e = let n : some r ≡ some s = ap (λ (a : Said S). a.next) e in cc
+  said_done (done r) {s} e = let n : Some r ≡ Some s = ap (λ (a : Said S). a.next) e in cc

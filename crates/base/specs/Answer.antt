@@ -1,19 +1,17 @@
--- Document 01's number for each answer that hands back no value.
-use Rattle.std.specs.Prelude.{[]}
-use Rattle.base.specs.Numbers.{DONE, BLOCKED, CORRUPT}
-use Rattle.base.specs.Outcome.{Told, says}
-use Rattle.base.specs.declared.Change.{Change}
-use Rattle.base.specs.declared.Change.TheVariants.{Corrupt, Done}
-use Rattle.base.specs.declared.Attempt.{Attempt}
-use Rattle.base.specs.declared.Attempt.TheVariants.{Corrupt as AttemptCorrupt, Blocked, Done as AttemptDone}
+-- What a Result says of how an operation on the tables ended.
+use Rattle.std.specs.Prelude.{Result, Ok, Err}
+use Rattle.base.specs.Outcome.{Outcome, corrupt, blocked, done}
+use Rattle.base.specs.declared.Corrupt.{Corrupt}
+use Rattle.base.specs.declared.Stop.{Stop}
+use Rattle.base.specs.declared.Stop.TheVariants.{Corrupt as StopCorrupt, Blocked}
 
--- broken tables: 12; else 0
-abbrev pub change_says : Change → Told
-change_says Corrupt = says CORRUPT []
-change_says Done = says DONE []
+-- of one that cannot be blocked
+abbrev pub outcome_of : {A : Type 0} → Result A Corrupt → Outcome A
+outcome_of (Ok a) = done a
+outcome_of (Err e) = corrupt
 
--- broken tables: 12; held: 20; else 0
-abbrev pub attempt_says : Attempt → Told
-attempt_says AttemptCorrupt = says CORRUPT []
-attempt_says Blocked = says BLOCKED []
-attempt_says AttemptDone = says DONE []
+-- of one that may have to wait
+abbrev pub attempt_of : {A : Type 0} → Result A Stop → Outcome A
+attempt_of (Ok a) = done a
+attempt_of (Err StopCorrupt) = corrupt
+attempt_of (Err Blocked) = blocked

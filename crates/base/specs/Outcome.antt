@@ -23,9 +23,9 @@ need true k = k
 need false k = corrupt
 
 -- blocked unless the test holds
-unfoldable pub await : {A : Type 0} → Bool → Outcome A → Outcome A
-await true k = k
-await false k = blocked
+unfoldable pub awaits : {A : Type 0} → Bool → Outcome A → Outcome A
+awaits true k = k
+awaits false k = blocked
 
 -- the first if the test holds, else the second
 unfoldable pub pick : {A : Type 0} → Bool → A → A → A
@@ -37,6 +37,12 @@ unfoldable pub and_then : {A B : Type 0} → Outcome A → (A → Outcome B) →
 and_then corrupt k = corrupt
 and_then blocked k = blocked
 and_then (done a) k = k a
+
+-- with a function of what came of it
+unfoldable pub outcome_map : {A B : Type 0} → (A → B) → Outcome A → Outcome B
+outcome_map f corrupt = corrupt
+outcome_map f blocked = blocked
+outcome_map f (done a) = done (f a)
 
 -- What is told of an outcome: document 01's number, and the values that f finds in what came of it.
 unfoldable pub tells : {A : Type 0} → (A → List ℕ) → Outcome A → Told

@@ -1,5 +1,5 @@
 -- How one step of a lane ends: document 01's number, what the lane is at next, and the tables.
-use Rattle.std.proofs.Math.Option.{Option, none, some}
+use Rattle.std.specs.Prelude.{Option, None, Some}
 use Rattle.std.specs.Prelude.{ℕ}
 use Rattle.base.specs.Numbers.{DONE, BLOCKED, CORRUPT}
 use Rattle.base.specs.Outcome.{Outcome, corrupt, blocked, done}
@@ -23,9 +23,9 @@ step_of n s t = record { number = n; next = s; tables = t }
 
 -- broken tables: 12; held: 20; else the step's own number
 unfoldable pub turn_tells : {S B : Type 0} → Outcome (Step S B) → Said S
-turn_tells corrupt = said CORRUPT none
-turn_tells blocked = said BLOCKED none
-turn_tells (done m) = said m.number (some m.next)
+turn_tells corrupt = said CORRUPT None
+turn_tells blocked = said BLOCKED None
+turn_tells (done m) = said m.number (Some m.next)
 
 -- the tables afterwards: those at the start, t, unless it moved
 unfoldable pub turn_leaves : {S B : Type 0} → B → Outcome (Step S B) → B
@@ -39,9 +39,9 @@ turned t o = (turn_tells o, turn_leaves t o)
 
 -- what is told of an outcome that is what a lane does next: broken tables 12, held 20, else 0
 unfoldable pub told : {S : Type 0} → Outcome S → Said S
-told corrupt = said CORRUPT none
-told blocked = said BLOCKED none
-told (done s) = said DONE (some s)
+told corrupt = said CORRUPT None
+told blocked = said BLOCKED None
+told (done s) = said DONE (Some s)
 
 -- a step over its own tables, as one over more
 unfoldable pub lift : {S A B : Type 0} → (A → B) → Outcome (Step S A) → Outcome (Step S B)

@@ -1,6 +1,9 @@
-// The words that every crate shares: how many of each thing there are, and the answers of operations that hand back no value.
-// Their numbers in document 01 are in specs/Answer.antt, how an operation ends in specs/Outcome.antt.
+// The words that every crate shares: how many of each thing there are, and why an operation on the tables is not done.
+// How an operation ends, with document 01's numbers, is in specs/Outcome.antt; what a Result says of it, in specs/Answer.antt.
 #![tactic(auto)]
+
+ghost use Rattle.std.specs.Prelude.{◌≡◌};
+ghost use Rattle.base.specs.declared.Stop.TheVariants.{Corrupt as StopCorrupt};
 
 // How many cells, buckets and entries of the object index there are, and slots in a bucket.
 pub const CELL_COUNT: u32 = 256;
@@ -74,17 +77,21 @@ pub const TAG_OVER: u32 = 31;
 
 pub const RADIUS_OVER: u32 = 32;
 
-// A change of the tables: refused as corrupt, or done.
-#[derive(Clone, Copy)]
-pub enum Change {
-    Corrupt,
-    Done,
-}
+// A stored number is out of its range, or what has to be there is missing: document 01's broken tables.
+#[derive(Clone, Copy, Debug, PartialEq, Eq)]
+pub struct Corrupt;
 
-// A change that may also have to wait.
-#[derive(Clone, Copy)]
-pub enum Attempt {
+// Why what may have to wait was not done: broken tables, or something that is held.
+#[derive(Clone, Copy, Debug, PartialEq, Eq)]
+pub enum Stop {
     Corrupt,
     Blocked,
-    Done,
+}
+
+impl From<Corrupt> for Stop {
+    ghost from_gives = { λ _ s. s ≡ StopCorrupt };
+
+    fn from(_e: Corrupt) -> Stop {
+        Stop::Corrupt
+    }
 }

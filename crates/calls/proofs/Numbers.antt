@@ -3,7 +3,7 @@
 use mathlib.Core.Path.{◌≡◌, refl}
 use mathlib.Core.Bool.{Bool, true, false, not, ◌&&◌, not-not}
 use Prim.Native.Nat.{ℕ}
-use Rattle.base.specs.Outcome.{Outcome, corrupt, blocked, done, need, await, pick, and_then}
+use Rattle.base.specs.Outcome.{Outcome, corrupt, blocked, done, need, awaits, pick, and_then}
 use Rattle.base.specs.Step.{Step, lift}
 use Rattle.base.proofs.Table.{not_ltb, not_leb}
 
@@ -36,8 +36,8 @@ module _ {S B : Type 0} where
   number_need true k = refl
   number_need false k = refl
 
-  pub number_await : (b : Bool) (k : Outcome (Step S B)) → number_of (await b k) ≡ pick (not b) 20 (number_of k)
-  unfolding number_of await pick
+  pub number_await : (b : Bool) (k : Outcome (Step S B)) → number_of (awaits b k) ≡ pick (not b) 20 (number_of k)
+  unfolding number_of awaits pick
   number_await true k = refl
   number_await false k = refl
 
@@ -62,8 +62,8 @@ module _ {A B : Type 0} (f : A → Outcome B) where
   then_need true k = refl
   then_need false k = refl
 
-  pub then_await : (b : Bool) (k : Outcome A) → and_then (await b k) f ≡ await b (and_then k f)
-  unfolding and_then await
+  pub then_await : (b : Bool) (k : Outcome A) → and_then (awaits b k) f ≡ awaits b (and_then k f)
+  unfolding and_then awaits
   then_await true k = refl
   then_await false k = refl
 

@@ -1,6 +1,6 @@
 -- What a call comes to, over all tables and the lanes L that it works on.
 use Rattle.std.specs.Prelude.{◌≡◌, Bool, true, false, ◌||◌, List, ℕ, eqb, set}
-use Rattle.std.proofs.Math.Option.{Option, none, some}
+use Rattle.std.specs.Prelude.{Option, None, Some}
 use Rattle.base.specs.Numbers.{DONE, BLOCKED, RESTARTED, FINISHED, CORRUPT}
 use Rattle.base.specs.Outcome.{Outcome, corrupt, blocked, done}
 use Rattle.base.specs.Step.{Step}
@@ -42,8 +42,8 @@ stepped t ls put (done m) = answered m.number m.tables (put m.next)
 
 -- the lanes, with one at what comes next, if anything does
 abbrev pub next_lanes : {S L : Type 0} → L → (S → L) → Option S → L
-next_lanes ls put none = ls
-next_lanes ls put (some s) = put s
+next_lanes ls put None = ls
+next_lanes ls put (Some s) = put s
 
 -- what a call in lane l by itself comes to, put among the lanes
 abbrev pub placed : {L : Type 0} → List L → ℕ → After L → After (List L)

@@ -1,4 +1,3 @@
-pub mod Answers
 mod Doing
 mod First
 pub mod Stored

@@ -1,14 +1,14 @@
 -- What is done to chains, on all tables.
-use Rattle.std.specs.Prelude.{◌≡◌, ℕ, List, set}
-use Rattle.base.specs.Outcome.{Outcome, ended}
+use Rattle.std.specs.Prelude.{ℕ, List, set, Option, Result}
+use Rattle.base.specs.Outcome.{Outcome}
+use Rattle.base.specs.Promise.{Gives}
+use Rattle.base.specs.declared.Corrupt.{Corrupt}
 use Rattle.base.specs.Table.{at}
 use Rattle.slots.specs.Tuple.{Tuples, copy, overwrite}
 use Rattle.tables.specs.Tables.{Tables, with_tuples, with_first, with_count, with_next, with_pool}
-use Rattle.cells.specs.Chain.{first_bucket, last_in, Lowering, lower, give_back, Chains, chains_of, push, make_room, Writing, write, unlinked_values, lowered_says, written_says}
+use Rattle.cells.specs.Chain.{first_bucket, last_in, Lowering, lower, give_back, Chains, chains_of, push, make_room, Writing, write}
 use Rattle.cells.specs.declared.Last.{Last}
-use Rattle.layout.specs.Place.{place_list}
-use Rattle.cells.specs.declared.Lowered.{Lowered}
-use Rattle.cells.specs.declared.Written.{Written}
+use Rattle.layout.specs.declared.place.Place.{Place}
 
 abbrev pub first_on : Tables → ℕ → Outcome ℕ
 first_on t c = first_bucket t.first c
@@ -52,10 +52,8 @@ write_on t c k x y m s = write t.first t.count t.tuples c k x y m s
 
 -- ---- promises of the functions that hand back more than how they ended
 
-abbrev pub Lowers : ℕ → Lowered → Tables → Tables → Type 0
-Lowers c r t t' = ended (λ (l : Lowering). unlinked_values l.unlinked) (with_lowering t) t (lower_on t c) ≡ (lowered_says r, t')
+abbrev pub Lowers : ℕ → Result (Option ℕ) Corrupt → Tables → Tables → Type 0
+Lowers c r t t' = Gives (λ (l : Lowering). l.unlinked) (with_lowering t) t (lower_on t c) r t'
 
-abbrev pub Writes : ℕ → ℕ → ℕ → ℕ → ℕ → ℕ → Written → Tables → Tables → Type 0
-Writes c k x y m n r t t' =
-    ended (λ (w : Writing). place_list w.place) (λ (w : Writing). with_tuples t w.tuples) t (write_on t c k x y m n)
-    ≡ (written_says r, t')
+abbrev pub Writes : ℕ → ℕ → ℕ → ℕ → ℕ → ℕ → Result Place Corrupt → Tables → Tables → Type 0
+Writes c k x y m n r t t' = Gives (λ (w : Writing). w.place) (λ (w : Writing). with_tuples t w.tuples) t (write_on t c k x y m n) r t'

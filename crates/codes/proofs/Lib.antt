@@ -1,4 +1,5 @@
 pub mod Updaters
 pub mod Queries
 pub mod Rest
+mod Chunks
 mod Stores

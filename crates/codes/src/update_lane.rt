@@ -4,7 +4,7 @@ ghost use Rattle.std.specs.Prelude.{◌≡◌, ◌≤◌, eqb};
 ghost use Rattle.std.proofs.lemmas.List.Edits.{sets};
 ghost use Rattle.words.specs.Part.{part};
 ghost use Rattle.stage.specs.Turn.{is_idle};
-ghost use Rattle.codes.specs.Updaters.{UPDATER-NUMBERS, stage_code, code_stage, stage_of, code_updater, decode_updater, started_updater};
+ghost use Rattle.codes.specs.Updaters.{UPDATER-NUMBERS, code_stage, stage_of, code_updater, decode_updater};
 
 use layout::place::Place;
 use stage::{Stage, Updater};
@@ -17,7 +17,7 @@ pub const STAGE_AT: usize = 4;
 pub const LAST_STAGE: u32 = 14;
 
 // A stage in numbers.
-#[derive(Clone, Copy)]
+#[derive(Clone, Copy, Debug, PartialEq, Eq)]
 pub struct StageCode {
     pub stage: u32,
     pub place: Place,
@@ -25,86 +25,63 @@ pub struct StageCode {
     pub bucket: u32,
 }
 
-// A stage that carries no more than a place.
-fn plain(stage: u32, place: Place) -> StageCode
-    ensures { result ≡ stage_code stage place 0 0 }
-{
-    StageCode {
-        stage,
-        place,
-        moved: 0,
-        bucket: 0,
-    }
-}
+impl From<Stage> for StageCode {
+    ghost from_gives = { λ s c. c ≡ code_stage s };
 
-// The numbers of a stage.
-fn code_stage(s: Stage) -> StageCode
-    ensures { result ≡ code_stage s }
-{
-    let none = Place {
-        cell: 0,
-        bucket: 0,
-        slot: 0,
-    };
-    match s {
-        Stage::Idle => plain(0, none),
-        Stage::TakeObject => plain(1, none),
-        Stage::LockCell(place) => plain(2, place),
-        Stage::LookLast(place) => plain(3, place),
-        Stage::CopyLast(place, moved) => StageCode {
-            stage: 4,
-            place,
-            moved,
+    fn from(s: Stage) -> StageCode {
+        let none = Place {
+            cell: 0,
             bucket: 0,
-        },
-        Stage::LowerCount(place, moved) => StageCode {
-            stage: 5,
-            place,
-            moved,
-            bucket: 0,
-        },
-        Stage::ReturnBucket(place, moved, bucket) => StageCode {
-            stage: 6,
+            slot: 0,
+        };
+        let (stage, place, moved, bucket) = match s {
+            Stage::Idle => (0, none, 0, 0),
+            Stage::TakeObject => (1, none, 0, 0),
+            Stage::LockCell(place) => (2, place, 0, 0),
+            Stage::LookLast(place) => (3, place, 0, 0),
+            Stage::CopyLast(place, moved) => (4, place, moved, 0),
+            Stage::LowerCount(place, moved) => (5, place, moved, 0),
+            Stage::ReturnBucket(place, moved, bucket) => (6, place, moved, bucket),
+            Stage::ErasePlace(place, moved) => (7, place, moved, 0),
+            Stage::ChooseCell => (8, none, 0, 0),
+            Stage::MakeRoom => (9, none, 0, 0),
+            Stage::WriteTuple => (10, none, 0, 0),
+            Stage::RaiseCount(place) => (11, place, 0, 0),
+            Stage::SwitchPlace(place) => (12, place, 0, 0),
+            Stage::DeleteOld(place) => (13, place, 0, 0),
+            Stage::ReleaseObject => (14, none, 0, 0),
+        };
+        StageCode {
+            stage,
             place,
             moved,
             bucket,
-        },
-        Stage::ErasePlace(place, moved) => StageCode {
-            stage: 7,
-            place,
-            moved,
-            bucket: 0,
-        },
-        Stage::ChooseCell => plain(8, none),
-        Stage::MakeRoom => plain(9, none),
-        Stage::WriteTuple => plain(10, none),
-        Stage::RaiseCount(place) => plain(11, place),
-        Stage::SwitchPlace(place) => plain(12, place),
-        Stage::DeleteOld(place) => plain(13, place),
-        Stage::ReleaseObject => plain(14, none),
+        }
     }
 }
 
-// The stage of a number, with what it carries. A number that names no stage is not given.
-fn stage_of(stage: u32, place: Place, moved: u32, bucket: u32) -> Stage
-    ensures { result ≡ stage_of stage place moved bucket }
-{
-    match stage {
-        1 => Stage::TakeObject,
-        2 => Stage::LockCell(place),
-        3 => Stage::LookLast(place),
-        4 => Stage::CopyLast(place, moved),
-        5 => Stage::LowerCount(place, moved),
-        6 => Stage::ReturnBucket(place, moved, bucket),
-        7 => Stage::ErasePlace(place, moved),
-        8 => Stage::ChooseCell,
-        9 => Stage::MakeRoom,
-        10 => Stage::WriteTuple,
-        11 => Stage::RaiseCount(place),
-        12 => Stage::SwitchPlace(place),
-        13 => Stage::DeleteOld(place),
-        14 => Stage::ReleaseObject,
-        _ => Stage::Idle,
+// A number that names no stage is not given.
+impl From<StageCode> for Stage {
+    ghost from_gives = { λ c s. s ≡ stage_of c.stage c.place c.moved c.bucket };
+
+    fn from(c: StageCode) -> Stage {
+        match c.stage {
+            1 => Stage::TakeObject,
+            2 => Stage::LockCell(c.place),
+            3 => Stage::LookLast(c.place),
+            4 => Stage::CopyLast(c.place, c.moved),
+            5 => Stage::LowerCount(c.place, c.moved),
+            6 => Stage::ReturnBucket(c.place, c.moved, c.bucket),
+            7 => Stage::ErasePlace(c.place, c.moved),
+            8 => Stage::ChooseCell,
+            9 => Stage::MakeRoom,
+            10 => Stage::WriteTuple,
+            11 => Stage::RaiseCount(c.place),
+            12 => Stage::SwitchPlace(c.place),
+            13 => Stage::DeleteOld(c.place),
+            14 => Stage::ReleaseObject,
+            _ => Stage::Idle,
+        }
     }
 }
 
@@ -112,21 +89,15 @@ fn stage_of(stage: u32, place: Place, moved: u32, bucket: u32) -> Stage
 pub fn seen_updater(stage: u32) -> Updater
     ensures { is_idle result.stage ≡ eqb stage 0 }
 {
-    if stage == 0 {
-        return Updater {
-            oid: 0,
-            x: 0,
-            y: 0,
-            tag: 0,
-            stage: Stage::Idle,
-        };
-    }
     Updater {
         oid: 0,
         x: 0,
         y: 0,
         tag: 0,
-        stage: Stage::TakeObject,
+        stage: match stage {
+            0 => Stage::Idle,
+            _ => Stage::TakeObject,
+        },
     }
 }
 
@@ -135,54 +106,41 @@ pub fn load_updater(lanes: &[u32; 80], at: usize) -> Updater
     requires { at ≤ 70 }
     ensures { result ≡ decode_updater (part at UPDATER-NUMBERS lanes.now) }
 {
-    let place = Place {
-        cell: lanes[at + 5],
-        bucket: lanes[at + 6],
-        slot: lanes[at + 7],
-    };
-    let stage = stage_of(lanes[at + STAGE_AT], place, lanes[at + 8], lanes[at + 9]);
-    Updater {
-        oid: lanes[at],
-        x: lanes[at + 1],
-        y: lanes[at + 2],
-        tag: lanes[at + 3],
+    let &[oid, x, y, tag, stage, cell, bucket, slot, moved, unlinked] = lanes[at..]
+        .first_chunk::<UPDATER_NUMBERS>()
+        .unwrap();
+    let code = StageCode {
         stage,
+        place: Place { cell, bucket, slot },
+        moved,
+        bucket: unlinked,
+    };
+    Updater {
+        oid,
+        x,
+        y,
+        tag,
+        stage: Stage::from(code),
     }
 }
 
 // Stores the numbers of an update from there on.
+#[tactic(auto, using(crate::proofs::Stores::copied), unfolding(crate::specs::Updaters::code_updater))]
 pub fn store_updater(lanes: &mut [u32; 80], at: usize, u: Updater)
     requires { at ≤ 70 }
     ensures { lanes.new ≡ sets lanes.old at (code_updater u) }
 {
-    let s = u.stage;
-    let code = code_stage(s);
-    let place = code.place;
-    lanes[at] = u.oid;
-    lanes[at + 1] = u.x;
-    lanes[at + 2] = u.y;
-    lanes[at + 3] = u.tag;
-    lanes[at + STAGE_AT] = code.stage;
-    lanes[at + 5] = place.cell;
-    lanes[at + 6] = place.bucket;
-    lanes[at + 7] = place.slot;
-    lanes[at + 8] = code.moved;
-    lanes[at + 9] = code.bucket;
-}
-
-// Stores the numbers of an update that was just started.
-pub fn store_started(lanes: &mut [u32; 80], at: usize, oid: u32, x: u32, y: u32, tag: u32)
-    requires { at ≤ 70 }
-    ensures { lanes.new ≡ sets lanes.old at (code_updater (started_updater oid x y tag)) }
-{
-    lanes[at] = oid;
-    lanes[at + 1] = x;
-    lanes[at + 2] = y;
-    lanes[at + 3] = tag;
-    lanes[at + STAGE_AT] = 1;
-    lanes[at + 5] = 0;
-    lanes[at + 6] = 0;
-    lanes[at + 7] = 0;
-    lanes[at + 8] = 0;
-    lanes[at + 9] = 0;
+    let code = StageCode::from(u.stage);
+    lanes[at..at + UPDATER_NUMBERS].copy_from_slice(&[
+        u.oid,
+        u.x,
+        u.y,
+        u.tag,
+        code.stage,
+        code.place.cell,
+        code.place.bucket,
+        code.place.slot,
+        code.moved,
+        code.bucket,
+    ]);
 }

@@ -7,7 +7,6 @@ use mathlib.Core.List.{List}
 use Prim.Native.Nat.{ℕ, ◌*◌}
 use lib.Dec.{ltb, leb}
 use lib.ListN.{get_or, set}
-use Rattle.base.proofs.Table.{clash}
 use Rattle.query.specs.declared.Query.{Query}
 use Rattle.tables.specs.Tables.{Tables, right_lengths}
 use Rattle.calls.specs.Call.{Result, refused, answered, unless}
@@ -63,7 +62,7 @@ module _ (t : Tables) (qs : List Query) (l : ℕ) where
 
   pub clear_answered : {k : ℕ} {t' : Tables} {qs' : List Query} → clear_query t qs l ≡ answered k t' qs' → ClearDone k t' qs'
   clear_answered {k} {t'} {qs'} =
-      clear_cases (λ r. r ≡ answered k t' qs' → ClearDone k t' qs') (λ e. clash (cc)) (λ e. clash (cc)) (λ e. clash (cc)) (λ e. clash (cc))
+      clear_cases (λ r. r ≡ answered k t' qs' → ClearDone k t' qs') (λ e. cc) (λ e. cc) (λ e. cc) (λ e. cc)
       (λ F e. let w = answer_one e in record { passed = F; number = w.0; tables = w.1; lanes = w.2 })
 
   module _ (n : ℕ) where
@@ -94,7 +93,7 @@ module _ (t : Tables) (qs : List Query) (l : ℕ) where
 
     pub read_answered : {k : ℕ} {t' : Tables} {h : Handed} → read_query t qs l n ≡ answered k t' h → ReadDone k t' h
     read_answered {k} {t'} {h} =
-        read_cases (λ r. r ≡ answered k t' h → ReadDone k t' h) (λ e. clash (cc)) (λ e. clash (cc)) (λ e. clash (cc)) (λ e. clash (cc)) (λ e. clash (cc))
+        read_cases (λ r. r ≡ answered k t' h → ReadDone k t' h) (λ e. cc) (λ e. cc) (λ e. cc) (λ e. cc) (λ e. cc)
         (λ R e. let w = answer_one e in record { passed = R; number = w.0; tables = w.1; handed = w.2 })
 
     -- ---- a collection
@@ -119,5 +118,5 @@ module _ (t : Tables) (qs : List Query) (l : ℕ) where
 
     pub collect_answered : {k : ℕ} {t' : Tables} {h : Handed} → collect_query t qs l n ≡ answered k t' h → CollectDone k t' h
     collect_answered {k} {t'} {h} =
-        collect_cases (λ r. r ≡ answered k t' h → CollectDone k t' h) (λ e. clash (cc)) (λ e. clash (cc)) (λ e. clash (cc)) (λ e. clash (cc)) (λ e. clash (cc))
+        collect_cases (λ r. r ≡ answered k t' h → CollectDone k t' h) (λ e. cc) (λ e. cc) (λ e. cc) (λ e. cc) (λ e. cc)
         (λ R e. let w = answer_one e in record { passed = R; number = w.0; tables = w.1; handed = w.2 })

@@ -15,17 +15,15 @@ use tables::lengths::right_words;
 fn idle(q: Query) -> Query
     ensures { result ≡ idled q }
 {
-    let question = q.question;
     Query {
-        question,
-        stamp: q.stamp,
-        hits: q.hits,
-        steps: q.steps,
         stage: Scan::Idle,
+        ..q
     }
 }
 
-// Idles the finished query of a lane, given by value. Gives 0, or is refused with 12 (lengths), 1, 3 or 10, which leaves the query as it is.
+// Idles the finished query of a lane, given by value. Gives 0, or is refused with 12 (lengths), 1, 3 or 10, which leaves
+// the query as it is.
+#[tactic(auto, using(calls::proofs::Sized::sized), unfolding(crate::specs::One::clear_one, calls::specs::Call::unless, calls::specs::Call::after))]
 pub fn clear_one(q: Query, lane: u32, words: &[u32], times: &[i32]) -> SweptOne
     ensures { OnGrid (seen words) (seen times) (ClearsOne q lane result) }
 {
@@ -41,27 +39,26 @@ pub fn clear_one(q: Query, lane: u32, words: &[u32], times: &[i32]) -> SweptOne
             query: q,
         };
     }
-    let s = q.stage;
-    if is_idle(s) {
+    if is_idle(q.stage) {
         return SweptOne {
             number: LANE_IDLE,
             query: q,
         };
     }
-    if !is_finished(s) {
+    if !is_finished(q.stage) {
         return SweptOne {
             number: QUERY_UNFINISHED,
             query: q,
         };
     }
-    let over = idle(q);
     SweptOne {
         number: DONE,
-        query: over,
+        query: idle(q),
     }
 }
 
 // Idles one of the lanes: what `clear_one` does there.
+#[tactic(auto, using(crate::proofs::Lane::clear_in, crate::proofs::Lane::clear_none, tables::proofs::Grid::grid_lengths))]
 pub fn clear(queries: [Query; 4], lane: u32, words: &[u32], times: &[i32]) -> Swept
     ensures { OnGrid (seen words) (seen times) (Clears queries lane result) }
 {
@@ -70,11 +67,9 @@ pub fn clear(queries: [Query; 4], lane: u32, words: &[u32], times: &[i32]) -> Sw
         return Swept { number, queries };
     }
     let at = lane as usize;
-    let q = queries[at];
-    let one = clear_one(q, lane, words, times);
-    let v = one.query;
+    let one = clear_one(queries[at], lane, words, times);
     let mut next = queries;
-    next[at] = v;
+    next[at] = one.query;
     Swept {
         number: one.number,
         queries: next,

@@ -7,17 +7,20 @@ ghost use Rattle.words.specs.Map.{HITS-SIZE};
 
 use words::{HIT_TAGS, HIT_XS, HIT_YS};
 
-// Writes so many entries, from one on, over the front of a list: object, x, y and tag of each. Later numbers are left alone.
+// Writes so many entries, from one on, over the front of a list: object, x, y and tag of each. Later numbers are left
+// alone.
 pub fn write_entries(hits: &[u32], from: usize, size: usize, out: &mut [u32])
     requires { (length hits.now ≡ HITS-SIZE) × (from + size ≤ 1024) × (4 * size ≤ length out.old) }
     ensures { out.new ≡ over (entries_from (hits_at hits.now) from size) out.old }
 {
-    let mut i = 0;
-    while i < size {
-        out[4 * i] = hits[from + i];
-        out[4 * i + 1] = hits[HIT_XS + (from + i)];
-        out[4 * i + 2] = hits[HIT_YS + (from + i)];
-        out[4 * i + 3] = hits[HIT_TAGS + (from + i)];
-        i += 1;
+    for i in 0..size {
+        let at = from + i;
+        let entry = [
+            hits[at],
+            hits[HIT_XS + at],
+            hits[HIT_YS + at],
+            hits[HIT_TAGS + at],
+        ];
+        out[4 * i..4 * i + 4].copy_from_slice(&entry);
     }
 }

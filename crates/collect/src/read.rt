@@ -6,7 +6,7 @@ ghost use Rattle.tables.specs.Promise.{OnGrid};
 ghost use Rattle.collect.specs.Filling.{parted_of, read_part};
 ghost use Rattle.collect.specs.Promise.{Reads, ReadsOne};
 
-use crate::admission::{Admission, admit};
+use crate::admission::admit;
 use crate::entries::write_entries;
 use base::{DONE, LIST_SIZE, QUERY_COUNT};
 use calls::no_lane;
@@ -14,7 +14,8 @@ use query::Query;
 use tables::lengths::right_words;
 use words::{CLOCK, HITS};
 
-// The number that a reading gives (document 01), the steps of the query, and how many numbers of the lent list are filled.
+// The number that a reading gives (document 01), the steps of the query, and how many numbers of the lent list are
+// filled.
 #[derive(Clone, Copy)]
 pub struct Reading {
     pub number: u32,
@@ -22,34 +23,34 @@ pub struct Reading {
     pub filled: usize,
 }
 
-// Hands back the list of the finished query in a lane, given by value: four numbers for each entry, over the front of the caller's list. No table changes,
-// and the query stays as it is. Gives 0, or is refused with 12 (lengths), 1, 3, 10, 11 or 12 (the number of hits), which leaves the list as it is.
-// The filled part is `out[..filled]`.
+// Hands back the list of the finished query in a lane, given by value: four numbers for each entry, over the front of
+// the caller's list. No table changes, and the query stays as it is. Gives 0, or is refused with 12 (lengths), 1, 3, 10,
+// 11 or 12 (the number of hits), which leaves the list as it is. The filled part is `out[..filled]`.
+#[tactic(auto, using(calls::proofs::Sized::as_long), unfolding(crate::specs::Admission::admitted_one, crate::specs::Admission::ask))]
 pub fn read_one(q: Query, lane: u32, out: &mut [u32], words: &[u32], times: &[i32]) -> Reading
     ensures { OnGrid (seen words) (seen times) (ReadsOne q lane (lent out) result) }
 {
     let right = right_words(words.len(), times.len());
-    let admission = admit(right, q, lane, out.len());
-    match admission {
-        Admission::Refused(number) => Reading {
+    match admit(right, q, lane, out.len()) {
+        Err(number) => Reading {
             number,
             steps: 0,
             filled: 0,
         },
-        Admission::Accepted(found) => {
+        Ok(found) => {
             let size = found.hits as usize;
-            write_entries(&words[HITS..CLOCK], LIST_SIZE * (lane as usize), size, out);
-            let filled = 4 * size;
+            write_entries(&words[HITS..CLOCK], LIST_SIZE * lane as usize, size, out);
             Reading {
                 number: DONE,
                 steps: found.steps,
-                filled,
+                filled: 4 * size,
             }
         }
     }
 }
 
 // Hands back the list of the finished query in one of the lanes: what `read_one` does there. No lane changes.
+#[tactic(auto, using(crate::proofs::Lane::read_in, crate::proofs::Lane::read_none, tables::proofs::Grid::grid_lengths))]
 pub fn read_into(
     queries: [Query; 4],
     lane: u32,
@@ -60,19 +61,19 @@ pub fn read_into(
     ensures { OnGrid (seen words) (seen times) (Reads queries lane (lent out) result) }
 {
     if lane >= QUERY_COUNT {
-        let number = no_lane(words.len(), times.len());
         return Reading {
-            number,
+            number: no_lane(words.len(), times.len()),
             steps: 0,
             filled: 0,
         };
     }
-    let q = queries[lane as usize];
-    read_one(q, lane, out, words, times)
+    read_one(queries[lane as usize], lane, out, words, times)
 }
 
-// The same in the form that document 01 names: the filled part of the caller's own list is handed back, the number and the steps go through `&mut`; an empty
-// part and 0 steps where it is refused. A function that returns a part of a lent list says nothing of the rest of it: `read_into` does.
+// The same in the form that document 01 names: the filled part of the caller's own list is handed back, the number and
+// the steps go through `&mut`; an empty part and 0 steps where it is refused. A function that returns a part of a lent
+// list says nothing of the rest of it: `read_into` does.
+#[tactic(auto, using(crate::proofs::Parted::part_handed))]
 pub fn read<'a>(
     queries: [Query; 4],
     lane: u32,
@@ -87,6 +88,5 @@ pub fn read<'a>(
     let reading = read_into(queries, lane, out, words, times);
     *number = reading.number;
     *steps = reading.steps;
-    let filled = reading.filled;
-    &mut out[..filled]
+    &mut out[..reading.filled]
 }

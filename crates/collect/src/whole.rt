@@ -4,11 +4,12 @@ ghost use Rattle.base.specs.Lent.{seen, lent};
 ghost use Rattle.tables.specs.Promise.{OnGrid};
 
 use crate::clear::clear;
-use crate::read::read_into;
+use crate::read::{Reading, read_into};
 use base::DONE;
 use query::Query;
 
-// The number that a collection gives (document 01), the steps of the query, how many numbers of the lent list are filled, and the queries afterwards.
+// The number that a collection gives (document 01), the steps of the query, how many numbers of the lent list are filled,
+// and the queries afterwards.
 #[derive(Clone, Copy)]
 pub struct Collected {
     pub number: u32,
@@ -17,7 +18,8 @@ pub struct Collected {
     pub queries: [Query; 4],
 }
 
-// Reads the list of the finished query in a lane, as `read_into` does, and, if that is accepted, clears the lane. A refused reading is all that is done.
+// Reads the list of the finished query in a lane, as `read_into` does, and, if that is accepted, clears the lane. A
+// refused reading is all that is done.
 pub fn collect(
     queries: [Query; 4],
     lane: u32,
@@ -27,20 +29,16 @@ pub fn collect(
 ) -> Collected
     ensures { OnGrid (seen words) (seen times) (Collects queries lane (lent out) result) }
 {
-    let reading = read_into(queries, lane, out, words, times);
-    let number = reading.number;
-    let steps = reading.steps;
-    let filled = reading.filled;
-    if number != DONE {
-        return Collected {
-            number,
-            steps,
-            filled,
-            queries,
-        };
-    }
-    let swept = clear(queries, lane, words, times);
-    let queries = swept.queries;
+    let Reading {
+        number,
+        steps,
+        filled,
+    } = read_into(queries, lane, out, words, times);
+    let queries = if number == DONE {
+        clear(queries, lane, words, times).queries
+    } else {
+        queries
+    };
     Collected {
         number,
         steps,

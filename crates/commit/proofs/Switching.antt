@@ -2,24 +2,24 @@
 -- The code looks at the cell before the places are shifted, the definition afterwards. A shift is never blocked, so the refusal is the same.
 use mathlib.Core.Path.{◌≡◌, refl, sym, ap, ◌∙◌}
 use mathlib.Core.Bool.{Bool, true, false}
-use mathlib.Core.Option.{Option, none, some}
+use Rattle.std.specs.Prelude.{Option, None, Some, Result, Ok, Err}
 use mathlib.Core.List.{List}
 use Prim.Native.Nat.{ℕ, ◌≤◌, ◌<◌}
 use native.Mathlib.Omega.{arith}
 use lib.IntN.{ℤ}
 use lib.ListN.{length, set}
 use borrow.Author.Tests.{le-ltb, lt-ltb}
-use Rattle.base.specs.Outcome.{Told, Outcome, corrupt, blocked, done, need, pick, and_then, tells, leaves, ended}
-use Rattle.base.proofs.Outcome.{ended_corrupt, ended_done}
+use Rattle.base.specs.Outcome.{Outcome, corrupt, blocked, done, need, pick, and_then, outcome_map, leaves}
+use Rattle.base.specs.Answer.{outcome_of}
+use Rattle.base.specs.Promise.{Gives}
+use Rattle.base.specs.declared.Corrupt.{Corrupt}
+use Rattle.base.proofs.Answer.{gave_corrupt, gave_done}
 use Rattle.base.specs.Step.{said, turned}
 use Rattle.words.specs.Map.{CELLS, WORDS}
 use Rattle.words.specs.Words.{index_in, put_index}
 use Rattle.words.proofs.Parts.{part_length}
-use Rattle.layout.specs.Place.{encode, decode, place_values, place_read_says}
+use Rattle.layout.specs.Place.{encode, decode}
 use Rattle.layout.specs.declared.place.Place.{Place}
-use Rattle.layout.specs.declared.place.PlaceRead.{PlaceRead}
-use Rattle.layout.specs.declared.place.PlaceRead.TheVariants.{Corrupt, Nowhere, At}
-use Rattle.layout.proofs.Answers.{place_values_lem, no_values}
 use Rattle.locks.specs.Lock.{release}
 use Rattle.index.specs.Search.{search as sought}
 use Rattle.index.specs.Index.{Index, index_at}
@@ -30,9 +30,8 @@ use Rattle.tables.specs.Grid.{grid}
 use Rattle.tables.proofs.Grid.{put_index_lem}
 use Rattle.base.proofs.Turns.{halts, moves}
 use Rattle.stage.specs.Turn.{at_entry}
-use Rattle.stage.specs.declared.Stage.TheVariants.{DeleteOld, ReleaseObject}
 use Rattle.commit.specs.Commit.{switching_of, after_switching, stage12}
-use Rattle.commit.specs.On.{put_places, freed, switching_in, put_switching, stage12_on}
+use Rattle.commit.specs.On.{put_places, freed, switching_in, put_switching, stage12_on, ShiftsAt}
 
 -- an outcome that is not blocked
 data Settled {A : Type 0} : Outcome A → Type 0 where
@@ -79,52 +78,49 @@ leaves_places t blocked = refl
 leaves_places t (done s) = refl
 
 -- what was shifted in the index is so among all tables
-pub shifted_on : (w : List ℕ) (ts : List ℤ) → length w ≡ WORDS → (o : Outcome Shifted) (s : Told) (v : List ℕ) → length v ≡ 2048 → ended (λ (d : Shifted). place_values d.old) (put_shifted (index_at (index_in w))) (index_at (index_in w)) o ≡ (s, index_at v) → ended (λ (d : Shifted). place_values d.old) (put_places (grid w ts)) (grid w ts) o ≡ (s, grid (put_index w v) ts)
+pub shifted_on : (w : List ℕ) (ts : List ℤ) → length w ≡ WORDS → (o : Outcome Shifted) (r : Result (Option Place) Corrupt) (v : List ℕ) → length v ≡ 2048 →
+    Gives (λ (s : Shifted). s.old) (put_shifted (index_at (index_in w))) (index_at (index_in w)) o r (index_at v) →
+    Gives (λ (s : Shifted). s.old) (put_places (grid w ts)) (grid w ts) o r (grid (put_index w v) ts)
 unfolding grid
-shifted_on w ts w# o s v v# e =
-    ap (λ (t : Tables). (tells (λ (d : Shifted). place_values d.old) o, t)) (leaves_places (grid w ts) o)
-    ∙ ap (λ (p : Told × Index). (p.0, with_index (grid w ts) p.1)) e
-    ∙ ap (λ (t : Tables). (s, t)) (sym (put_index_lem w ts w# v v#))
+shifted_on w ts w# o r v v# e =
+    ap (λ (t : Tables). (outcome_map (λ (s : Shifted). s.old) o, t)) (leaves_places (grid w ts) o)
+    ∙ ap (λ (p : Outcome (Option Place) × Index). (p.0, with_index (grid w ts) p.1)) e
+    ∙ ap (λ (t : Tables). (outcome_of r, t)) (sym (put_index_lem w ts w# v v#))
 
 -- ---- the stage
 
 module _ (t : Tables) (p : Place) (k : ℕ) where
-  pub switch_missing : {i : ℕ} → sought t.index.oid k ≡ Empty i → turned t (stage12_on t p k) ≡ (said 12 none, t)
+  pub switch_missing : {i : ℕ} → sought t.index.oid k ≡ Empty i → turned t (stage12_on t p k) ≡ (said 12 None, t)
   unfolding stage12_on stage12 at_entry
   switch_missing s = halts (put_switching t) t (stage12 t.index.oid (switching_in t) p k) t (rw s) refl
 
   module _ {i : ℕ} (s : sought t.index.oid k ≡ Found i) (c# : length t.cells ≡ 256) where
     -- the cell is out of range
-    pub switch_far : 256 ≤ p.cell → turned t (stage12_on t p k) ≡ (said 12 none, t)
+    pub switch_far : 256 ≤ p.cell → turned t (stage12_on t p k) ≡ (said 12 None, t)
     unfolding stage12_on stage12 at_entry release need and_then
     switch_far h =
         halts (put_switching t) t (stage12 t.index.oid (switching_in t) p k) t
         (rw s (settled_refused (settled_shift _ _ _ _) (λ a. rw (c#, le-ltb _ _ h)))) refl
 
-    lost : shift_in t.index i p ≡ corrupt → (t' : Tables) → t' ≡ t → turned t (stage12_on t p k) ≡ (said 12 none, t')
+    lost : shift_in t.index i p ≡ corrupt → (t' : Tables) → t' ≡ t → turned t (stage12_on t p k) ≡ (said 12 None, t')
     unfolding stage12_on stage12 at_entry and_then
     lost e t' q = halts (put_switching t) t (stage12 t.index.oid (switching_in t) p k) t' (rw (s, e)) q
 
     -- the places were shifted: the cell is released, and what comes next is told by the old place
-    went : (old : Option Place) (a : Shifted) → shift_in t.index i p ≡ done a → a.old ≡ old → p.cell < 256 → (u : Tables) → put_places t a ≡ u → (t' : Tables) → t' ≡ freed u p.cell → turned t (stage12_on t p k) ≡ (said 0 (some (after_switching old)), t')
+    went : (old : Option Place) (a : Shifted) → shift_in t.index i p ≡ done a → a.old ≡ old → p.cell < 256 → (u : Tables) → put_places t a ≡ u → (t' : Tables) → t' ≡ freed u p.cell → turned t (stage12_on t p k) ≡ (said 0 (Some (after_switching old)), t')
     unfolding stage12_on stage12 at_entry release need and_then
     went old a e f h u m t' q =
         moves (put_switching t) t (stage12 t.index.oid (switching_in t) p k) t' 0 (after_switching old) (switching_of a.current a.previous (set t.cells p.cell 0))
         (rw (s, e, f, c#, lt-ltb p.cell 256 h)) (q ∙ ap (λ (v : Tables). freed v p.cell) (sym m))
 
     -- as shift_entry answers; u: the tables when the places are shifted, and the cell is not free yet
-    module _ (u : Tables) {r : PlaceRead} (e : ended (λ (d : Shifted). place_values d.old) (put_places t) t (shift_in t.index i p) ≡ (place_read_says r, u)) where
-      pub switch_lost : r ≡ Corrupt → turned t (stage12_on t p k) ≡ (said 12 none, u)
+    module _ (u : Tables) {r : Result (Option Place) Corrupt} (e : ShiftsAt i p r t u) where
+      pub switch_lost : {x : Corrupt} → r ≡ Err x → turned t (stage12_on t p k) ≡ (said 12 None, u)
       switch_lost q =
-          let d = ended_corrupt (λ (d : Shifted). place_values d.old) (put_places t) t u (shift_in t.index i p) (rw q at e) in
+          let d = gave_corrupt (λ (a : Shifted). a.old) (put_places t) t u (shift_in t.index i p) e q in
           lost d.0 u d.1
 
-      pub switch_nowhere : r ≡ Nowhere → p.cell < 256 → (t' : Tables) → t' ≡ freed u p.cell → turned t (stage12_on t p k) ≡ (said 0 (some ReleaseObject), t')
-      switch_nowhere q h t' z =
-          let d = ended_done (λ (d : Shifted). place_values d.old) (put_places t) t u (shift_in t.index i p) (rw q at e) in
-          went none d.0 d.1 (no_values d.0.old d.2) h u d.3 t' z
-
-      pub switch_at : (o : Place) → r ≡ At o → p.cell < 256 → (t' : Tables) → t' ≡ freed u p.cell → turned t (stage12_on t p k) ≡ (said 0 (some (DeleteOld o)), t')
-      switch_at o q h t' z =
-          let d = ended_done (λ (d : Shifted). place_values d.old) (put_places t) t u (shift_in t.index i p) (rw q at e) in
-          went (some o) d.0 d.1 (place_values_lem d.0.old o d.2) h u d.3 t' z
+      pub switch_made : {old : Option Place} → r ≡ Ok old → p.cell < 256 → (t' : Tables) → t' ≡ freed u p.cell → turned t (stage12_on t p k) ≡ (said 0 (Some (after_switching old)), t')
+      switch_made {old} q h t' z =
+          let d = gave_done (λ (a : Shifted). a.old) (put_places t) t u (shift_in t.index i p) e q in
+          went old d.0 d.1 d.2 h u d.3 t' z

@@ -1,14 +1,14 @@
 -- Stages 11 to 13, each on all tables.
-use Rattle.std.specs.Prelude.{◌≡◌, ℕ, set}
-use Rattle.base.specs.Outcome.{Outcome, ended}
+use Rattle.std.specs.Prelude.{ℕ, set, Option, Result}
+use Rattle.base.specs.Outcome.{Outcome}
+use Rattle.base.specs.Promise.{Gives}
+use Rattle.base.specs.declared.Corrupt.{Corrupt}
 use Rattle.base.specs.Step.{lift}
 use Rattle.layout.specs.declared.place.Place.{Place}
 use Rattle.index.specs.Places.{Shifted, shift_in}
 use Rattle.tables.specs.Tables.{Tables, with_cells, with_count, with_times, with_clock, with_entries}
 use Rattle.stage.specs.Turn.{Move}
 use Rattle.commit.specs.Commit.{stage11, Switching, switching_of, stage12, Deleting, deleting_of, stage13}
-use Rattle.layout.specs.Place.{place_values, place_read_says}
-use Rattle.layout.specs.declared.place.PlaceRead.{PlaceRead}
 
 abbrev pub stage11_on : Tables → Place → Outcome (Move Tables)
 stage11_on t p = lift (with_count t) (stage11 t.count p)
@@ -42,6 +42,5 @@ unfoldable pub stage13_on : Tables → Place → Outcome (Move Tables)
 stage13_on t p = lift (put_deleting t) (stage13 (deleting_in t) p)
 
 -- the promise of a shift of the places of an entry: r is the old current place
-abbrev pub ShiftsAt : ℕ → Place → PlaceRead → Tables → Tables → Type 0
-ShiftsAt i p r t t' =
-    ended (λ (s : Shifted). place_values s.old) (put_places t) t (shift_in t.index i p) ≡ (place_read_says r, t')
+abbrev pub ShiftsAt : ℕ → Place → Result (Option Place) Corrupt → Tables → Tables → Type 0
+ShiftsAt i p r t t' = Gives (λ (s : Shifted). s.old) (put_places t) t (shift_in t.index i p) r t'

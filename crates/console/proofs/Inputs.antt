@@ -8,7 +8,7 @@ use mathlib.Core.List.{List, [], ◌∷◌, ◌++◌, map}
 use Prim.Native.Nat.{ℕ, suc, ◌≤◌}
 use native.Mathlib.Omega.{arith}
 use lib.Dec.{eqb}
-use lib.ListN.{length, take, length-take}
+use lib.ListN.{length, take}
 use Rattle.base.specs.Outcome.{pick}
 use Rattle.script.proofs.Theorems.{parse_kept}
 use Rattle.grid.specs.Run.{Grid}
@@ -17,21 +17,20 @@ use Rattle.streams.specs.Lines.{joined, last_line, lines_behind, lines_of, kept_
 use Rattle.streams.specs.Lines.{Cuts, over, another, ended, onward}
 use Rattle.console.specs.Text.{line_text, script_text}
 use Rattle.streams.proofs.Cutting.{kept_again}
-use Rattle.streams.proofs.Fetching.{cut_lines}
+use Rattle.streams.proofs.Fetching.{cut_met, cut_on, kept_few}
 
 -- ---- from blocks
 
 cuts_lines : {had rest : List ℕ} {blocks lines : List (List ℕ)} → length had ≤ 61 → Cuts had rest blocks lines
     → lines ≡ kept_lines had (rest ++ joined blocks)
-unfolding joined kept_lines pick
+unfolding joined kept_lines
 cuts_lines h over = refl
 cuts_lines h (another c) = cuts_lines h c
-cuts_lines {blocks = blocks} h (ended {had} {block} {line} {from = from} {next = next} {kept = kept} k c) =
-    ap (λ (ls : List (List ℕ)). take kept line ∷ ls) (cuts_lines (omega arith) c)
-    ∙ sym (cut_lines block had line (joined blocks) from next kept true h k)
-cuts_lines {blocks = blocks} h (onward {had} {block} {line} {from = from} {next = next} {kept = kept} k c) =
-    cuts_lines (omega (arith, length-take kept line, k.few)) c
-    ∙ sym (cut_lines block had line (joined blocks) from next kept false h k)
+cuts_lines {blocks = blocks} h (ended {had} {block} {line} {from = from} {next = next} k c) =
+    ap (λ (ls : List (List ℕ)). line ∷ ls) (cuts_lines (omega arith) c)
+    ∙ sym (cut_met block had line (joined blocks) from h next k)
+cuts_lines {blocks = blocks} h (onward {had} {block} {line} {from = from} k c) =
+    cuts_lines (kept_few k) c ∙ sym (cut_on block had line (joined blocks) from h k)
 
 -- ---- what is kept of the lines
 

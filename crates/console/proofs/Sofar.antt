@@ -25,9 +25,12 @@ use Rattle.streams.specs.Lines.{joined, kept_lines}
 use Rattle.console.specs.Text.{line_text, script_text}
 use Rattle.console.specs.Turn.{Turn}
 use Rattle.streams.specs.Reading.{unread}
-use Rattle.streams.specs.Next.{at_start, Later, due, NextLine}
+use Rattle.streams.specs.Next.{at_start, is_line, Later, due, NextLine}
 use Rattle.console.specs.Run.{output_of, Ran}
+use Rattle.std.specs.Prelude.{Result}
+use Rattle.streams.specs.declared.progress.Failed.{Failed}
 use Rattle.streams.specs.declared.progress.Progress.{Progress}
+use Rattle.console.specs.declared.run.Ended.{Ended}
 use Rattle.streams.proofs.Cutting.{joined-append, joined_more}
 use Rattle.console.proofs.Inputs.{kept_output}
 
@@ -43,13 +46,13 @@ pub record Sofar (number : ℕ) (last : Bool) (lines : List ℕ → List (List �
 -- before a line is read, and with the line that was read
 abbrev pub Before : ℕ → List ℕ → Progress → List ℕ → Grid → List ℕ → Type 0
 Before n block p out g list =
-    Sofar n p.last (λ later. due false p.last [] (unread block p.next p.filled ++ later))
+    Sofar n p.last (λ later. due false p.last [] (unread block p.input.next p.input.filled ++ later))
     p.waiting out g list
 
-abbrev pub Behind : ℕ → List ℕ → List ℕ → Progress → List ℕ → Grid → List ℕ → Type 0
-Behind n block line p out g list =
-    Sofar n p.last (λ later. due p.more p.last (take p.kept line)
-    (unread block p.next p.filled ++ later)) p.waiting out g list
+abbrev pub Behind : Bool → ℕ → List ℕ → List ℕ → Progress → List ℕ → Grid → List ℕ → Type 0
+Behind more n block line p out g list =
+    Sofar n p.last (λ later. due more p.last line (unread block p.input.next p.input.filled ++ later))
+    p.waiting out g list
 
 -- ---- the start
 
@@ -94,11 +97,11 @@ moved pieces w w' out e =
     ))
     e
 
-pub sofar_next : {n : ℕ} {block block' line' out list : List ℕ} {p r : Progress} {g : Grid}
-    → Before n block p out g list → NextLine block block' line' p r
-    → Behind n block' line' r out g list
-sofar_next {n} {block} {block'} {line'} {out} {list} {p} {r} {g} s t =
-    let m = moved s.pieces p.waiting r.waiting out t.room in
+pub sofar_next : {n : ℕ} {block block' line' out list : List ℕ} {p p' : Progress} {r : Result Bool Failed} {g : Grid}
+    → Before n block p out g list → NextLine block p block' line' p' r
+    → Behind (is_line r) n block' line' p' out g list
+sofar_next {n} {block} {block'} {line'} {out} {list} {p} {p'} {r} {g} s t =
+    let m = moved s.pieces p.waiting p'.waiting out t.room in
     record {
       blocks = s.blocks ++ t.blocks;
       pieces = m.0;
@@ -109,8 +112,8 @@ sofar_next {n} {block} {block'} {line'} {out} {list} {p} {r} {g} s t =
           ∙ (s.text (joined t.blocks ++ later) (t.allowed later h)
           ∙ (ap (λ (ls : List (List ℕ)). joined s.pieces ++ (take p.waiting out ++ script_text n ls g list))
           (t.lines later h)
-          ∙ m.1 (script_text n (due r.more r.last (take r.kept line')
-          (unread block' r.next r.filled ++ later)) g list)));
+          ∙ m.1 (script_text n (due (is_line r) p'.last line'
+          (unread block' p'.input.next p'.input.filled ++ later)) g list)));
     }
 
 -- ---- the answer
@@ -132,35 +135,33 @@ turn_waits {i} {w} {w'} {line} {list} {list'} {out} {out'} {g} {g'} t =
     ap (take w') (t.text.bytes ∙ sets-eq text out w fits)
     ∙ take_at (take w out ++ text) rest w' long
 
-pub sofar_turn : (block line : List ℕ) (p : Progress) {n w' : ℕ} {out out' list list' : List ℕ} {g g' : Grid}
-    → Behind n block line p out g list → p.more ≡ true
-    → Turn (n + 1) (take p.kept line) g list out p.waiting g' list' out' w'
-    → Sofar (n + 1) p.last (λ later. due false p.last []
-    (unread block p.next p.filled ++ later)) w' out' g' list'
+pub sofar_turn : (block : List ℕ) (p : Progress) {more : Bool} {line said : List ℕ} {n w' : ℕ} {out out' list list' : List ℕ} {g g' : Grid}
+    → Behind more n block line p out g list → more ≡ true → said ≡ line
+    → Turn (n + 1) said g list out p.waiting g' list' out' w'
+    → Before (n + 1) block (record p { waiting = w' }) out' g' list'
 unfolding script_text
-sofar_turn block line p {n} {w'} {out} {out'} {list} {list'} {g} {g'} s e t =
-    let l = take p.kept line in
+sofar_turn block p {more} {line = line₀} {said = line} {n} {w'} {out} {out'} {list} {list'} {g} {g'} s e k t =
     let w = p.waiting in
-    let r = line_step l g list in
+    let r = line_step line g list in
     record {
       blocks = s.blocks;
       pieces = s.pieces;
       text =
           λ later h.
-          let bytes = unread block p.next p.filled ++ later in
+          let bytes = unread block p.input.next p.input.filled ++ later in
           let ls = due false p.last [] bytes in
-          let after : line_text (suc n) l r ++ script_text (suc n) ls r.grid r.list ≡ line_text
-          (n + 1) l r ++ script_text (n + 1) ls g' list' =
-          ap (λ (i : ℕ). line_text i l r ++ script_text i ls r.grid r.list) (sym (add-one n))
-          ∙ (ap (λ (x : Grid). line_text (n + 1) l r ++ script_text (n + 1) ls x r.list) t.grid
-          ∙ ap (λ (x : List ℕ). line_text (n + 1) l r ++ script_text (n + 1) ls g' x) t.handed)
+          let after : line_text (suc n) line r ++ script_text (suc n) ls r.grid r.list ≡ line_text
+          (n + 1) line r ++ script_text (n + 1) ls g' list' =
+          ap (λ (i : ℕ). line_text i line r ++ script_text i ls r.grid r.list) (sym (add-one n))
+          ∙ (ap (λ (x : Grid). line_text (n + 1) line r ++ script_text (n + 1) ls x r.list) t.grid
+          ∙ ap (λ (x : List ℕ). line_text (n + 1) line r ++ script_text (n + 1) ls g' x) t.handed)
           in
           s.text later h
           ∙ (ap (λ (x : List (List ℕ)). joined s.pieces ++ (take w out ++ script_text n x g list))
-          (ap (λ (b : Bool). due b p.last l bytes) e ∙ due_first p.last l bytes)
+          (ap (λ (b : Bool). due b p.last line₀ bytes) e ∙ ap (λ (x : List ℕ). due true p.last x bytes) (sym k) ∙ due_first p.last line bytes)
           ∙ ap (λ (x : List ℕ). joined s.pieces ++ x)
           (ap (λ (x : List ℕ). take w out ++ x) after
-          ∙ (sym (append_assoc (take w out) (line_text (n + 1) l r) (script_text (n + 1) ls g' list'))
+          ∙ (sym (append_assoc (take w out) (line_text (n + 1) line r) (script_text (n + 1) ls g' list'))
           ∙ ap (λ (x : List ℕ). x ++ script_text (n + 1) ls g' list') (sym (turn_waits t)))));
     }
 
@@ -170,11 +171,10 @@ none_later : (last : Bool) → Later last []
 none_later true = refl
 none_later false = tt
 
-pub sofar_end : {n w : ℕ} {last reads writes : Bool} {out list : List ℕ} {g : Grid} {lines : List ℕ → List (List ℕ)}
-    → Sofar n last lines w out g list
-    → (last ≡ true → lines [] ≡ []) → Ran (record { reads = reads; writes = writes; whole = last })
+sofar_end : {n w : ℕ} {last : Bool} {out list : List ℕ} {g : Grid} {lines : List ℕ → List (List ℕ)} (r : Ended)
+    → Sofar n last lines w out g list → (last ≡ true → lines [] ≡ []) → r.whole ≡ last → Ran r
 unfolding script_text
-sofar_end {n} {w} {last} {reads} {writes} {out} {list} {g} {lines} s k =
+sofar_end {n} {w} {last} {out} {list} {g} {lines} r s k m =
     let rest = script_text n (lines []) g list in
     let told : output_of (joined s.blocks) ≡ joined (s.pieces ++ take w out ∷ []) ++ rest =
     ap output_of (sym (append-nil (joined s.blocks)))
@@ -189,25 +189,17 @@ sofar_end {n} {w} {last} {reads} {writes} {out} {list} {g} {lines} s k =
       all =
           λ e.
           sym (told ∙ (ap (λ (ls : List (List ℕ)). joined (s.pieces ++ take w out ∷ []) ++ script_text n ls g list)
-          (k e) ∙ append-nil (joined (s.pieces ++ take w out ∷ []))));
+          (k (sym m ∙ e)) ∙ append-nil (joined (s.pieces ++ take w out ∷ []))));
     }
 
 none_due : (more last : Bool) (kept bytes : List ℕ) → more ≡ false → last ≡ true → due more last kept bytes ≡ []
 none_due more last kept bytes e k = rw (e, k)
 
-ran_as : {p q : Progress} {reads writes : Bool} → p ≡ q
-    → Ran (record { reads = reads; writes = writes; whole = q.last })
-    → Ran (record { reads = reads; writes = writes; whole = p.last })
-ran_as {p} {q} {reads} {writes} e r = subst
-    (λ (x : Progress). Ran (record { reads = reads; writes = writes; whole = x.last })) (sym e) r
-
 -- the loop is left before a line was read, or with no line
-pub ran_before : (block : List ℕ) (q : Progress) {n : ℕ} {out list : List ℕ} {g : Grid} {p : Progress}
-    {reads writes : Bool} → Before n block q out g list → p ≡ q
-    → Ran (record { reads = reads; writes = writes; whole = p.last })
-ran_before block q s e = ran_as e (sofar_end s (λ k. none_due false q.last [] _ refl k))
+pub ran_before : (block : List ℕ) (p : Progress) {n : ℕ} {out list : List ℕ} {g : Grid} (r : Ended)
+    → Before n block p out g list → r.whole ≡ p.last → Ran r
+ran_before block p r s e = sofar_end r s (λ k. none_due false p.last [] _ refl k) e
 
-pub ran_behind : (block line : List ℕ) (q : Progress) {n : ℕ} {out list : List ℕ} {g : Grid} {p : Progress}
-    {reads writes : Bool} → Behind n block line q out g list
-    → q.more ≡ false → p ≡ q → Ran (record { reads = reads; writes = writes; whole = p.last })
-ran_behind block line q s m e = ran_as e (sofar_end s (λ k. none_due q.more q.last _ _ m k))
+pub ran_behind : (block line : List ℕ) (p : Progress) {n : ℕ} {out list : List ℕ} {g : Grid} (more : Bool) (r : Ended)
+    → Behind more n block line p out g list → more ≡ false → r.whole ≡ p.last → Ran r
+ran_behind block line p more r s m e = sofar_end r s (λ k. none_due more p.last line _ m k) e

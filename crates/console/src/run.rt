@@ -4,19 +4,21 @@ ghost use Rattle.console.specs.Run.{Ran};
 use crate::turn::{Due, answer_line};
 use grid::reset::reset;
 use queries::lanes::idle_queries;
+use script::split::LineBytes;
+use std::io;
 use std::io::{Read, Write};
 use streams::output::hand_over;
-use streams::progress::{next_line, no_progress};
+use streams::progress::{Failed, Progress, next_line};
 use updates::lanes::idle_updaters;
 use words::{TIMES, WORDS};
 
 // How a run ended.
-#[derive(Clone, Copy)]
+#[derive(Debug, Drop)]
 pub struct Ended {
-    // No read failed.
-    pub reads: bool,
-    // No write failed.
-    pub writes: bool,
+    // What the reads came to.
+    pub reads: io::Result<()>,
+    // What the writes came to.
+    pub writes: io::Result<()>,
     // The input was read to its end.
     pub whole: bool,
 }
@@ -30,26 +32,33 @@ pub fn run_script<R: Read, W: Write>(input: &mut R, output: &mut W) -> Ended
     let mut times = [0i32; TIMES];
     let mut list = [0u32; 1024];
     let mut block = [0u8; 4096];
-    let mut line = [0u8; 61];
+    let mut line = LineBytes::new();
     let mut out = [0u8; 16384];
     let lanes = reset(idle_updaters(), idle_queries(), &mut words, &mut times);
     let mut updaters = lanes.updaters;
     let mut queries = lanes.queries;
-    let mut number: u64 = 0;
-    let mut p = no_progress();
-    while number < u64::MAX {
-        p = next_line(input, output, &mut block, &mut line, &out, p);
-        if !p.more {
-            break;
+    let mut p = Progress::default();
+    let mut reads = Ok(());
+    let mut writes = Ok(());
+    for number in 0..u64::MAX {
+        match next_line(input, output, &mut block, &mut line, &out, &mut p) {
+            Ok(true) => {}
+            Ok(false) => break,
+            Err(Failed::Reading(e)) => {
+                reads = Err(e);
+                break;
+            }
+            Err(Failed::Writing(e)) => {
+                writes = Err(e);
+                break;
+            }
         }
-        number += 1;
-        let kept = p.kept;
         let due = Due {
-            number,
+            number: number + 1,
             waiting: p.waiting,
         };
         let done = answer_line(
-            &line[..kept],
+            line.as_slice(),
             due,
             &mut out,
             &mut list,
@@ -62,20 +71,10 @@ pub fn run_script<R: Read, W: Write>(input: &mut R, output: &mut W) -> Ended
         queries = done.queries;
         p.waiting = done.waiting;
     }
-    let waiting = p.waiting;
-    let rest = hand_over(output, &out, waiting);
-    let reads = p.reads;
-    let whole = p.last;
-    if !p.writes {
-        return Ended {
-            reads,
-            writes: false,
-            whole,
-        };
-    }
+    let rest = hand_over(output, &out, p.waiting);
     Ended {
         reads,
-        writes: rest.writes,
-        whole,
+        writes: writes.and(rest.writes),
+        whole: p.last,
     }
 }

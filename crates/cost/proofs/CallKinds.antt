@@ -6,7 +6,7 @@
 use mathlib.Core.Path.{◌≡◌, refl, sym, ◌∙◌}
 use mathlib.Core.Logic.{◌≢◌, inl}
 use mathlib.Core.Bool.{true, false}
-use mathlib.Core.Option.{none}
+use Rattle.std.specs.Prelude.{None}
 use mathlib.Core.List.{List, ◌∷◌}
 use Prim.Native.Nat.{ℕ, ◌<◌}
 use native.Mathlib.Omega.{arith}
@@ -34,11 +34,11 @@ use Rattle.cost.proofs.Stepped.{idle_not}
 
 -- the event is no start, no end and no step, and settles nothing
 pub record Idles (e : Event) : Type 0 where
-  pub begins : (deed e).begins ≡ none
-  pub ends : (deed e).ends ≡ none
-  pub asks : (deed e).asks ≡ none
-  pub goes : (deed e).goes ≡ none
-  pub settles : (deed e).settles ≡ none
+  pub begins : (deed e).begins ≡ None
+  pub ends : (deed e).ends ≡ None
+  pub asks : (deed e).asks ≡ None
+  pub goes : (deed e).goes ≡ None
+  pub settles : (deed e).settles ≡ None
 
 module _ (e : Event) (past : List Event) (is : Idles e) where
   same_known : known (e ∷ past) ≡ known past
@@ -114,7 +114,7 @@ module _ (e : Event) (past : List Event) (is : Idles e) where
     }
 
 -- a call that comes to nothing, on the same grid
-pub rel_nothing : (e : Event) (past : List Event) (g : Grid) → deed e ≡ deed_of none none none none none
+pub rel_nothing : (e : Event) (past : List Event) (g : Grid) → deed e ≡ deed_of None None None None None
     → Rel past g → Rel (e ∷ past) g
 rel_nothing e past g is R = rel_same e past
     (record { begins = rw is; ends = rw is; asks = rw is; goes = rw is; settles = rw is }) g R

@@ -1,7 +1,7 @@
 -- Readings, clearings and collections keep what ties the past to the grid: a reading changes nothing, and the other two only the lane of a finished query. What an
 -- accepted reading or collection hands back is the count of the last query of its lane, which has finished (CallKinds.antt).
 use mathlib.Core.Path.{◌≡◌, refl, sym, ap, ◌∙◌}
-use mathlib.Core.Option.{Option, none, some}
+use Rattle.std.specs.Prelude.{Option, None, Some}
 use mathlib.Core.List.{List, [], ◌∷◌}
 use Prim.Native.Nat.{ℕ}
 use Rattle.base.proofs.Table.{clash}
@@ -21,14 +21,14 @@ use Rattle.cost.proofs.Verdict.{Verdict, no, yes, read_verdict, clear_verdict, c
 use Rattle.cost.proofs.Claims.{Claim, no_claim}
 
 -- an event that is at most a list handed back is no start, no end and no step
-idles : (e : Event) {c : Option ℕ} → deed e ≡ deed_of none none none none c → Idles e
+idles : (e : Event) {c : Option ℕ} → deed e ≡ deed_of None None None None c → Idles e
 idles e is = record { begins = rw is; ends = rw is; asks = rw is; goes = rw is; settles = rw is }
 
 -- a list is handed back
-one-collection : (past : List Event) (l : ℕ) (e : Event) → deed e ≡ deed_of none none none none (some l) → Counted l e.answer.steps past → Claim e past
+one-collection : (past : List Event) (l : ℕ) (e : Event) → deed e ≡ deed_of None None None None (Some l) → Counted l e.answer.steps past → Claim e past
 one-collection past l e is F = record {
-  steps = λ l' n' z. let w : ◌≡◌ {A = Option (ℕ × ℕ)} none (some (l', n')) = sym (ap (λ (d : Deed). d.goes) is) ∙ z in clash (cc);
-  collections = λ l' z. let w : some l ≡ some l' = sym (ap (λ (d : Deed). d.collects) is) ∙ z in let a : l' ≡ l = cc in rw a F;
+  steps = λ l' n' z. let w : ◌≡◌ {A = Option (ℕ × ℕ)} None (Some (l', n')) = sym (ap (λ (d : Deed). d.goes) is) ∙ z in clash (cc);
+  collections = λ l' z. let w : Some l ≡ Some l' = sym (ap (λ (d : Deed). d.collects) is) ∙ z in let a : l' ≡ l = cc in rw a F;
 }
 
 module _ (past : List Event) (g : Grid) (R : Rel past g) where
@@ -46,13 +46,13 @@ module _ (past : List Event) (g : Grid) (R : Rel past g) where
   module _ (l n : ℕ) where
     -- the event of a call that hands a list back, and the grid that it leaves
     abbrev handed : Call → Result Handed → Event
-    handed c r = let a = after t (handed_of g.queries 0 []) r in record { call = c; answer = answer_of a.number a.lanes.steps a.lanes.part; seen = (event_of c g).seen; settles = none }
+    handed c r = let a = after t (handed_of g.queries 0 []) r in record { call = c; answer = answer_of a.number a.lanes.steps a.lanes.part; seen = (event_of c g).seen; settles = None }
 
     abbrev grid_from : Result Handed → Grid
     grid_from r = let a = after t (handed_of g.queries 0 []) r in grid_of a.tables g.updaters a.lanes.queries
 
     -- a refused one
-    none_handed : (c : Call) (k : ℕ) → deed (handed c (refused k)) ≡ deed_of none none none none none → Rel (handed c (refused k) ∷ past) (grid_from (refused k)) × Claim (handed c (refused k)) past
+    none_handed : (c : Call) (k : ℕ) → deed (handed c (refused k)) ≡ deed_of None None None None None → Rel (handed c (refused k) ∷ past) (grid_from (refused k)) × Claim (handed c (refused k)) past
     unfolding after
     none_handed c k is = (rel_nothing (handed c (refused k)) past g is R, no_claim (handed c (refused k)) past (rw is) (rw is))
 
@@ -61,7 +61,7 @@ module _ (past : List Event) (g : Grid) (R : Rel past g) where
     collect_by _ e (no k a) = none_handed (collect l n) k (deed_refused (handed (collect l n) (refused k)) refl a)
     collect_by _ e (yes t' h) =
         let ev = handed (collect l n) (answered 0 t' h) in
-        let is : deed ev ≡ deed_of none none none none (some l) = deed_accepted ev 0 refl refl refl in
+        let is : deed ev ≡ deed_of None None None None (Some l) = deed_accepted ev 0 refl refl refl in
         let C = collect_answered t g.queries l n e in
         let F = C.passed.query in
         let same : grid_of t' g.updaters h.queries ≡ idled_grid g l = rw (C.tables, C.handed) in
@@ -76,7 +76,7 @@ module _ (past : List Event) (g : Grid) (R : Rel past g) where
     read_by _ e (no k a) = none_handed (read l n) k (deed_refused (handed (read l n) (refused k)) refl a)
     read_by _ e (yes t' h) =
         let ev = handed (read l n) (answered 0 t' h) in
-        let is : deed ev ≡ deed_of none none none none (some l) = deed_accepted ev 0 refl refl refl in
+        let is : deed ev ≡ deed_of None None None None (Some l) = deed_accepted ev 0 refl refl refl in
         let C = read_answered t g.queries l n e in
         let same : grid_of t' g.updaters h.queries ≡ g = rw (C.tables, C.handed) in
         (rw same (rel_same ev past (idles ev is) g R), one-collection past l ev is (told l C.passed.query h.steps (ap (λ (x : Handed). x.steps) C.handed)))
@@ -87,7 +87,7 @@ module _ (past : List Event) (g : Grid) (R : Rel past g) where
 
   module _ (l : ℕ) where
     abbrev clearing : Result (List Query) → Event
-    clearing r = record { call = clear l; answer = answer_of (after t g.queries r).number 0 []; seen = (event_of (clear l) g).seen; settles = none }
+    clearing r = record { call = clear l; answer = answer_of (after t g.queries r).number 0 []; seen = (event_of (clear l) g).seen; settles = None }
 
     abbrev cleared_grid : Result (List Query) → Grid
     cleared_grid r = let a = after t g.queries r in grid_of a.tables g.updaters a.lanes
@@ -100,7 +100,7 @@ module _ (past : List Event) (g : Grid) (R : Rel past g) where
         (rel_nothing ev past g is R, no_claim ev past (rw is) (rw is))
     clear_by _ e (yes t' qs') =
         let ev = clearing (answered 0 t' qs') in
-        let is : deed ev ≡ deed_of none none none none none = deed_accepted ev 0 refl refl refl in
+        let is : deed ev ≡ deed_of None None None None None = deed_accepted ev 0 refl refl refl in
         let C = clear_answered t g.queries l e in
         let same : grid_of t' g.updaters qs' ≡ idled_grid g l = rw (C.tables, C.lanes) in
         (rw same (idled l C.passed ev (idles ev is)), no_claim ev past (rw is) (rw is))

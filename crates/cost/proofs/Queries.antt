@@ -2,7 +2,7 @@
 use mathlib.Core.Path.{◌≡◌, refl, sym, ap, ◌∙◌}
 use mathlib.Core.Logic.{◌≢◌, inl}
 use mathlib.Core.Bool.{Bool, true, false, ◌&&◌}
-use mathlib.Core.Option.{Option, none, some}
+use Rattle.std.specs.Prelude.{Option, None, Some}
 use mathlib.Core.List.{List, [], ◌∷◌}
 use Prim.Native.Nat.{ℕ, ◌+◌, ◌*◌, ◌<◌}
 use native.Mathlib.Omega.{arith}
@@ -55,7 +55,7 @@ and_false false = refl
 
 -- ---- a blocked step
 
-module _ (e : Event) (past : List Event) (g : Grid) (R : Rel past g) (l : ℕ) (is : deed e ≡ deed_of none none none (some (l, 20)) none) (sees : e.seen ≡ seen_by g.tables)
+module _ (e : Event) (past : List Event) (g : Grid) (R : Rel past g) (l : ℕ) (is : deed e ≡ deed_of None None None (Some (l, 20)) None) (sees : e.seen ≡ seen_by g.tables)
     (c : ℕ) (rest : List ℕ) (cells : (tally past l).cells ≡ c ∷ rest) (none_left : (tally past l).rest ≡ 0) (locked : at g.tables.cells c ≢ 0) where
   abbrev S : Seen
   S = seen_by g.tables
@@ -77,14 +77,14 @@ module _ (e : Event) (past : List Event) (g : Grid) (R : Rel past g) (l : ℕ) (
   blocked_fits : StepFits 20 e.seen (tally past l)
   blocked_fits = rw sees (record { answer = ap (λ (p : ℕ × Tally). p.0) (sym stays); blocked = (λ z. (none_left, (c, rest, cells, locked)), λ z. refl) })
 
-pair_one : {p q : ℕ × ℕ} → some p ≡ some q → q ≡ p
+pair_one : {p q : ℕ × ℕ} → Some p ≡ Some q → q ≡ p
 pair_one e = cc
 
 -- one step of one lane is all that is claimed
-one-step : (e : Event) (past : List Event) (l n : ℕ) → deed e ≡ deed_of none none none (some (l, n)) none → StepFits n e.seen (tally past l) → Claim e past
+one-step : (e : Event) (past : List Event) (l n : ℕ) → deed e ≡ deed_of None None None (Some (l, n)) None → StepFits n e.seen (tally past l) → Claim e past
 one-step e past l n is F = record {
-  steps = λ l' n' z. let w : ◌≡◌ {A = Option (ℕ × ℕ)} (some (l, n)) (some (l', n')) = sym (ap (λ (d : Deed). d.goes) is) ∙ z in let p : ◌≡◌ {A = ℕ × ℕ} (l', n') (l, n) = pair_one w in rw (ap (λ (x : ℕ × ℕ). x.0) p, ap (λ (x : ℕ × ℕ). x.1) p) F;
-  collections = λ l' z. let w : none ≡ some l' = sym (ap (λ (d : Deed). d.collects) is) ∙ z in clash (cc);
+  steps = λ l' n' z. let w : ◌≡◌ {A = Option (ℕ × ℕ)} (Some (l, n)) (Some (l', n')) = sym (ap (λ (d : Deed). d.goes) is) ∙ z in let p : ◌≡◌ {A = ℕ × ℕ} (l', n') (l, n) = pair_one w in rw (ap (λ (x : ℕ × ℕ). x.0) p, ap (λ (x : ℕ × ℕ). x.1) p) F;
+  collections = λ l' z. let w : None ≡ Some l' = sym (ap (λ (d : Deed). d.collects) is) ∙ z in clash (cc);
 }
 
 -- the number of a step that moves is no refusal
@@ -99,7 +99,7 @@ module _ (past : List Event) (g : Grid) (R : Rel past g) where
   t = g.tables
 
   abbrev event_by : Call → Result (List Query) → Event
-  event_by c r = record { call = c; answer = answer_of (after t g.queries r).number 0 []; seen = (event_of c g).seen; settles = none }
+  event_by c r = record { call = c; answer = answer_of (after t g.queries r).number 0 []; seen = (event_of c g).seen; settles = None }
 
   abbrev grid_by : Result (List Query) → Grid
   grid_by r = grid_of (after t g.queries r).tables g.updaters (after t g.queries r).lanes
@@ -161,7 +161,7 @@ module _ (past : List Event) (g : Grid) (R : Rel past g) where
     moves m Go K L b f = λ G.
         let ev = event_by (step_query l) (answered m.number m.tables (set g.queries l m.next)) in
         let g' = scanned g l m in
-        let is : deed ev ≡ deed_of none none none (some (l, m.number)) none = deed_accepted ev m.number refl refl (moved_number m.next.stage m.number Go.says) in
+        let is : deed ev ≡ deed_of None None None (Some (l, m.number)) None = deed_accepted ev m.number refl refl (moved_number m.next.stage m.number Go.says) in
         let own : query g' l ≡ m.next = get_or-set_same g.queries l m.next idle_query (omega (arith, R.good.shape.queries)) in
         let others : (q : ℕ) → q ≢ l → query g' q ≡ query g q = λ q z. get_or-set_other g.queries l q m.next idle_query z in
         let may = may_same g g' refl L.first L.next L.count L.tuples in
@@ -176,7 +176,7 @@ module _ (past : List Event) (g : Grid) (R : Rel past g) where
     enter_by c corrupt z e b f M c< = absurd (not_refused _ (enter_never g R.good l l< c z) e)
     enter_by c blocked z e b f M c< = λ G.
         let ev = event_by (step_query l) (answered 20 t g.queries) in
-        let is : deed ev ≡ deed_of none none none (some (l, 20)) none = deed_accepted ev 20 refl refl refl in
+        let is : deed ev ≡ deed_of None None None (Some (l, 20)) None = deed_accepted ev 20 refl refl refl in
         let lock = enter_blocked t R.good.shape.lengths l s c e in
         (rel_blocked ev past g R l is refl c M.0.0 M.0.2 M.1 lock, one-step ev past l 20 is (blocked_fits ev past g R l is refl c M.0.0 M.0.2 M.1 lock))
     enter_by c (done m) z e b f M c< =

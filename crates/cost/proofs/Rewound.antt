@@ -2,7 +2,7 @@
 -- grid at rest to a grid at rest (CallKinds.antt).
 use mathlib.Core.Path.{◌≡◌, refl}
 use mathlib.Core.Bool.{Bool, true, false}
-use mathlib.Core.Option.{none}
+use Rattle.std.specs.Prelude.{None}
 use mathlib.Core.List.{List, ◌∷◌}
 use Prim.Native.Nat.{ℕ}
 use lib.Dec.{T}
@@ -17,11 +17,11 @@ use Rattle.cost.proofs.CallKinds.{Idles, rel_nothing, rel_rest}
 use Rattle.cost.proofs.Rel.{Rel}
 
 -- accepted or not
-no_deed : (g : Grid) → deed (event_of rewind g) ≡ deed_of none none none none none
+no_deed : (g : Grid) → deed (event_of rewind g) ≡ deed_of None None None None None
 unfolding deed only_if pick
 no_deed g = go (accepted_number (call rewind g).0.number)
   where
-    go : (b : Bool) → pick b (deed_of none none none none none) (deed_of none none none none none) ≡ deed_of none none none none none
+    go : (b : Bool) → pick b (deed_of None None None None None) (deed_of None None None None None) ≡ deed_of None None None None None
     go true = refl
     go false = refl
 

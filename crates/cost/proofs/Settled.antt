@@ -5,7 +5,7 @@
 -- are the known ones.
 use mathlib.Core.Path.{◌≡◌}
 use mathlib.Core.Bool.{true, false}
-use mathlib.Core.Option.{none}
+use Rattle.std.specs.Prelude.{None}
 use mathlib.Core.List.{List, ◌∷◌, map}
 use Prim.Native.Nat.{ℕ, ◌+◌, ◌<◌}
 use native.Mathlib.Omega.{arith}
@@ -64,7 +64,7 @@ module _ (e : Event) (past : List Event) (g g' : Grid) (ks : List ℕ) (is : dee
     (R : Rel past g) (G' : Good g')
     (idle : (l : ℕ) → l < 8 → (updater g' l).stage ≡ IdleStage)
     (still : (q : ℕ) → q < 4 → (query g' q).stage ≡ Idle) (kept : (k : ℕ) → T ((view g').known k) → In k ks) where
-  under_none : (l : ℕ) → under_way (e ∷ past) l ≡ none
+  under_none : (l : ℕ) → under_way (e ∷ past) l ≡ None
   unfolding under_way only_if
   under_none l = rw is
 

@@ -2,7 +2,7 @@
 -- By induction on the list: each call keeps what ties the past to the grid, and the claims hold of it; the bound is read off the end.
 use mathlib.Core.Path.{◌≡◌, refl, subst}
 use mathlib.Core.Bool.{Bool, true, false}
-use mathlib.Core.Option.{none}
+use Rattle.std.specs.Prelude.{None}
 use mathlib.Core.List.{List, [], ◌∷◌, ◌++◌}
 use Prim.Native.Nat.{ℕ, ◌≤◌}
 use lib.Dec.{T}
@@ -28,11 +28,11 @@ use Rattle.cost.proofs.Start.{empty_rel}
 use Rattle.cost.proofs.Updates.{keep_update_start, keep_update_step}
 
 -- a call of an update is neither a step of a query nor a collection
-no_steps : (c : Call) (g : Grid) → ((n : ℕ) → (accepted c n).goes ≡ none) → ((n : ℕ) → (accepted c n).collects ≡ none) → ((deed (event_of c g)).goes ≡ none) × ((deed (event_of c g)).collects ≡ none)
+no_steps : (c : Call) (g : Grid) → ((n : ℕ) → (accepted c n).goes ≡ None) → ((n : ℕ) → (accepted c n).collects ≡ None) → ((deed (event_of c g)).goes ≡ None) × ((deed (event_of c g)).collects ≡ None)
 unfolding deed pick only_if
 no_steps c g a b = go (accepted_number (call c g).0.number)
   where
-    go : (x : Bool) → ((pick x (accepted c (call c g).0.number) (deed_of none none none none none)).goes ≡ none) × ((pick x (accepted c (call c g).0.number) (deed_of none none none none none)).collects ≡ none)
+    go : (x : Bool) → ((pick x (accepted c (call c g).0.number) (deed_of None None None None None)).goes ≡ None) × ((pick x (accepted c (call c g).0.number) (deed_of None None None None None)).collects ≡ None)
     go true = (a _, b _)
     go false = (refl, refl)
 

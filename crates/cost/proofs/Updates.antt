@@ -2,7 +2,7 @@
 use mathlib.Core.Path.{◌≡◌, refl, sym, subst, ◌∙◌}
 use mathlib.Core.Logic.{◌≢◌, ◌⊎◌, inl, inr, ⊎_elim}
 use mathlib.Core.Bool.{Bool, true, false}
-use mathlib.Core.Option.{none, some}
+use Rattle.std.specs.Prelude.{None, Some}
 use mathlib.Core.List.{List, [], ◌∷◌}
 use Prim.Native.Nat.{ℕ, suc, ◌<◌}
 use native.Mathlib.Omega.{arith}
@@ -67,7 +67,7 @@ in_new k ks false e = here
 
 -- ---- the start of an update
 
-module _ (past : List Event) (g : Grid) (R : Rel past g) (l k x y m : ℕ) (e : Event) (t' : Tables) (us' : List Updater) (is : deed e ≡ deed_of (some (l, k)) none none none none)
+module _ (past : List Event) (g : Grid) (R : Rel past g) (l k x y m : ℕ) (e : Event) (t' : Tables) (us' : List Updater) (is : deed e ≡ deed_of (Some (l, k)) None None None None)
     (B : UpdateBegun g.tables g.updaters l k x y m t' us') (G' : Good (grid_of t' us' g.queries)) where
   abbrev u : Updater
   u = record { oid = k; x = x; y = y; tag = m; stage = TakeObject }
@@ -97,10 +97,10 @@ module _ (past : List Event) (g : Grid) (R : Rel past g) (l k x y m : ℕ) (e : 
   ties j j< = at_or j l
       (λ z.
       let lane : updater g' j ≡ u = rw (B.updaters, z) (get_or-set_same g.updaters l u idle_updater (omega (arith, B.lane, R.good.shape.updaters))) in
-      rw (is, lane, z) (upd_same (under_way past) l (some k)))
+      rw (is, lane, z) (upd_same (under_way past) l (Some k)))
       (λ z.
       let lane : updater g' j ≡ updater g j = rw B.updaters (get_or-set_other g.updaters l j u idle_updater z) in
-      rw (is, lane) (upd_other (under_way past) l (some k) j z ∙ R.ties j j<))
+      rw (is, lane) (upd_other (under_way past) l (Some k) j z ∙ R.ties j j<))
 
   may : (j c : ℕ) → May g' j c → May g j c ⊎ (T (new e j) × (c ≡ cell_of x y))
   unfolding only_if
@@ -114,7 +114,7 @@ module _ (past : List Event) (g : Grid) (R : Rel past g) (l k x y m : ℕ) (e : 
 
 -- ---- a step of an update
 
-module _ (past : List Event) (g : Grid) (R : Rel past g) (l : ℕ) (l< : l < 8) (e : Event) (m : Move Tables) (is : deed e ≡ deed_of none (pick (eqb m.number 22) (some l) none) none none none)
+module _ (past : List Event) (g : Grid) (R : Rel past g) (l : ℕ) (l< : l < 8) (e : Event) (m : Move Tables) (is : deed e ≡ deed_of None (pick (eqb m.number 22) (Some l) None) None None None)
     (going : stage_on g.tables (suc l) (updater g l) (updater g l).stage ≡ done m) (was : is_idle (updater g l).stage ≡ false)
     (ends : is_idle m.next ≡ eqb m.number 22) (G' : Good (stepped g l m)) (may : (k c : ℕ) → May (stepped g l m) k c → May g k c) where
   abbrev g₁ : Grid
@@ -126,12 +126,12 @@ module _ (past : List Event) (g : Grid) (R : Rel past g) (l : ℕ) (l< : l < 8) 
       (λ z.
       let lane : updater g₁ j ≡ with_stage (updater g l) m.next = rw z (get_or-set_same g.updaters l (with_stage (updater g l) m.next) idle_updater (omega (arith, R.good.shape.updaters))) in
       by_test (eqb m.number 22)
-      (λ w. rw (is, lane, ends, w, z) (upd_same (under_way past) l none))
+      (λ w. rw (is, lane, ends, w, z) (upd_same (under_way past) l None))
       (λ w. rw (is, lane, ends, w, z) (R.ties l l< ∙ rw was)))
       (λ z.
       let lane : updater g₁ j ≡ updater g j = get_or-set_other g.updaters l j (with_stage (updater g l) m.next) idle_updater z in
       by_test (eqb m.number 22)
-      (λ w. rw (is, lane, w) (upd_other (under_way past) l none j z ∙ R.ties j j<))
+      (λ w. rw (is, lane, w) (upd_other (under_way past) l None j z ∙ R.ties j j<))
       (λ w. rw (is, lane, w) (R.ties j j<)))
 
   parts : Parts g.tables m.tables
@@ -162,7 +162,7 @@ module _ (past : List Event) (g : Grid) (R : Rel past g) where
 
   -- what a call of updates leaves, by what it comes to
   abbrev event_by : Call → Result (List Updater) → Event
-  event_by c r = record { call = c; answer = answer_of (after t g.updaters r).number 0 []; seen = (event_of c g).seen; settles = none }
+  event_by c r = record { call = c; answer = answer_of (after t g.updaters r).number 0 []; seen = (event_of c g).seen; settles = None }
 
   abbrev grid_by : Result (List Updater) → Grid
   grid_by r = grid_of (after t g.updaters r).tables (after t g.updaters r).lanes g.queries
@@ -197,7 +197,7 @@ module _ (past : List Event) (g : Grid) (R : Rel past g) where
     accepts n s (back i) = refl
     accepts n s end = refl
 
-    blocked_nothing : (e : Event) → deed e ≡ deed_of none (pick (eqb 20 22) (some l) none) none none none → deed e ≡ deed_of none none none none none
+    blocked_nothing : (e : Event) → deed e ≡ deed_of None (pick (eqb 20 22) (Some l) None) None None None → deed e ≡ deed_of None None None None None
     unfolding pick
     blocked_nothing e is = is
 

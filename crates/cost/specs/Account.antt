@@ -1,7 +1,7 @@
 -- DEMAND 3: the cost account of range queries (document 01: the tally), and what is claimed of it for every list of calls.
 -- All of it is read off the calls, their answers and, at a step of a query, the tables of cells, locks and buckets as the step found them; nothing is read off a lane.
 use Rattle.std.specs.Prelude.{◌≡◌, ◌≢◌, Bool, true, false, not, ◌&&◌, List, [], ◌∷◌, ◌++◌, map, ℕ, zero, suc, ◌+◌, ◌*◌, ◌≤◌, eqb, length}
-use Rattle.std.proofs.Math.Option.{Option, none, some}
+use Rattle.std.specs.Prelude.{Option, None, Some}
 use Rattle.base.specs.Numbers.{DONE, BLOCKED, FINISHED, QUERY-FINISHED}
 use Rattle.base.specs.Outcome.{pick}
 use Rattle.base.specs.Table.{at, upd}
@@ -33,13 +33,13 @@ event_of c g = record {
   call = c;
   answer = (call c g).0;
   seen = record { first = g.tables.first; locks = g.tables.cells; count = g.tables.count; next = g.tables.next };
-  settles = none;
+  settles = None;
 }
 
 -- What came before a list that is made on another grid than the empty one, at rest: these objects are known, and nothing is
 -- under way. Neither its call nor its answer is looked at.
 abbrev pub settled : List ℕ → Event
-settled ks = record { call = collect 0 0; answer = answer_of 0 0 []; seen = record { first = []; locks = []; count = []; next = [] }; settles = some ks }
+settled ks = record { call = collect 0 0; answer = answer_of 0 0 []; seen = record { first = []; locks = []; count = []; next = [] }; settles = Some ks }
 
 -- what happened when calls were made on a grid, each on the grid as the last one left it; the last call comes first
 unfoldable pub history : List Call → Grid → List Event → List Event
@@ -56,41 +56,41 @@ pub record Deed : Type 0 where
   pub settles : Option (List ℕ)
 
 abbrev pub deed_of : Option (ℕ × ℕ) → Option ℕ → Option (ℕ × Region) → Option (ℕ × ℕ) → Option ℕ → Deed
-deed_of b e a g c = record { begins = b; ends = e; asks = a; goes = g; collects = c; settles = none }
+deed_of b e a g c = record { begins = b; ends = e; asks = a; goes = g; collects = c; settles = None }
 
 -- everything is settled: every update under way has ended, every query is abandoned, and the objects of the list are known
 abbrev pub settled_deed : List ℕ → Deed
-settled_deed ks = record { begins = none; ends = none; asks = none; goes = none; collects = none; settles = some ks }
+settled_deed ks = record { begins = None; ends = None; asks = None; goes = None; collects = None; settles = Some ks }
 
 -- an update ends with the step that gives 22
 abbrev pub accepted : Call → ℕ → Deed
-accepted (start_update l k x y m) n = deed_of (some (l, k)) none none none none
-accepted (step_update l) n = deed_of none (pick (eqb n FINISHED) (some l) none) none none none
-accepted (start_query l u) n = deed_of none none (some (l, u)) none none
-accepted (step_query l) n = deed_of none none none (some (l, n)) none
-accepted (collect l m) n = deed_of none none none none (some l)
-accepted (read l m) n = deed_of none none none none (some l)
-accepted (clear l) n = deed_of none none none none none
-accepted rewind n = deed_of none none none none none
+accepted (start_update l k x y m) n = deed_of (Some (l, k)) None None None None
+accepted (step_update l) n = deed_of None (pick (eqb n FINISHED) (Some l) None) None None None
+accepted (start_query l u) n = deed_of None None (Some (l, u)) None None
+accepted (step_query l) n = deed_of None None None (Some (l, n)) None
+accepted (collect l m) n = deed_of None None None None (Some l)
+accepted (read l m) n = deed_of None None None None (Some l)
+accepted (clear l) n = deed_of None None None None None
+accepted rewind n = deed_of None None None None None
 
 -- f of what is there, or else x
 unfoldable pub only_if : {A B : Type 0} → Option A → (A → B) → B → B
-only_if none f x = x
-only_if (some a) f x = f a
+only_if None f x = x
+only_if (Some a) f x = f a
 
 -- a refused call comes to nothing
 unfoldable pub deed : Event → Deed
 deed e =
     let n = e.answer.number in
-    only_if e.settles settled_deed (pick (accepted_number n) (accepted e.call n) (deed_of none none none none none))
+    only_if e.settles settled_deed (pick (accepted_number n) (accepted e.call n) (deed_of None None None None None))
 
 -- the object whose update is under way in each lane
 unfoldable pub under_way : List Event → ℕ → Option ℕ
-under_way [] = λ l. none
+under_way [] = λ l. None
 under_way (e ∷ past) =
     let f = under_way past in
-    only_if (deed e).settles (λ _ l. none)
-    (only_if (deed e).begins (λ b. upd f b.0 (some b.1)) (only_if (deed e).ends (λ l. upd f l none) f))
+    only_if (deed e).settles (λ _ l. None)
+    (only_if (deed e).begins (λ b. upd f b.0 (Some b.1)) (only_if (deed e).ends (λ l. upd f l None) f))
 
 -- the objects known, each once, from the first accepted start of an update
 unfoldable pub among : ℕ → List ℕ → Bool
@@ -198,8 +198,8 @@ sweeps (e ∷ past) =
     (only_if (deed e).asks (λ a. opened a.0 a.1 past ∷ ss) ss)
 
 unfoldable pub latest : ℕ → List Sweep → Option Sweep
-latest q [] = none
-latest q (s ∷ ss) = pick (eqb s.lane q) (some s) (latest q ss)
+latest q [] = None
+latest q (s ∷ ss) = pick (eqb s.lane q) (Some s) (latest q ss)
 
 -- ---- THE CLAIMS
 -- K is `cells_touched` of the question, which is the length of its walk (`walk-length` in regions/proofs/Walk.antt).
@@ -226,7 +226,7 @@ pub record StepFits (n : ℕ) (s : Seen) (t : Tally) : Type 0 where
 pub record Counted (l n : ℕ) (past : List Event) : Type 0 where
   pub tally : n ≡ (tally past l).count
   pub query : Sweep
-  pub last : latest l (sweeps past) ≡ some query
+  pub last : latest l (sweeps past) ≡ Some query
   pub finished : query.finished ≡ true
   pub steps : n ≡ query.steps
   pub found : n ≡ cells_touched query.question + total query.entered
@@ -239,9 +239,9 @@ Bounded s = let most = cells_touched s.question + 6 * length s.objects in (s.ste
 -- The claim about what happened: 1 and 2 of each event, whatever came before and after; 3, after all, of each query with at most
 -- one update of each object in the whole of it
 pub record AccountedOf (all : List Event) : Type 0 where
-  pub steps : (after before : List Event) (e : Event) (l n : ℕ) → all ≡ after ++ e ∷ before → (deed e).goes ≡ some (l, n)
+  pub steps : (after before : List Event) (e : Event) (l n : ℕ) → all ≡ after ++ e ∷ before → (deed e).goes ≡ Some (l, n)
       → StepFits n e.seen (tally before l)
-  pub collections : (after before : List Event) (e : Event) (l : ℕ) → all ≡ after ++ e ∷ before → (deed e).collects ≡ some l
+  pub collections : (after before : List Event) (e : Event) (l : ℕ) → all ≡ after ++ e ∷ before → (deed e).collects ≡ Some l
       → Counted l e.answer.steps before
   pub queries : (ss ts : List Sweep) (s : Sweep) → sweeps all ≡ ss ++ s ∷ ts → ((k : ℕ) → s.updates k ≤ 1) → Bounded s
 

@@ -2,7 +2,7 @@
 -- A point of a cell lies no farther outside the rectangle than one of the cell's edges, in x and in y separately.
 -- So the corner that lies farthest decides for touching, and the two edges of each coordinate for within and centre.
 use mathlib.Core.Path.{◌≡◌, sym, ◌∙◌}
-use mathlib.Core.Bool.{true, false, ◌&&◌, and-eq-true_iff}
+use mathlib.Core.Bool.{true, and-eq-true_iff}
 use mathlib.Core.Logic.{◌↔◌}
 use Prim.Native.Nat.{ℕ, ◌+◌, ◌-◌, ◌≤◌, ◌<◌}
 use native.Mathlib.Omega.{arith}
@@ -11,8 +11,8 @@ use borrow.Author.Tests.{le-leb, leb-true, leb-false, lt-ltb, ltb-true}
 use Rattle.base.proofs.Table.{by_test}
 use Rattle.layout.specs.Place.{cell_of}
 use Rattle.layout.specs.declared.question.Question.{Question as Rectangle}
-use Rattle.layout.proofs.Bools.{leb_iff}
 use Rattle.layout.specs.Question.{Proper}
+use Rattle.std.proofs.lemmas.Bool.Decides.{nat_tests, same_from_decides}
 use Rattle.layout.proofs.Corners.{proper_facts}
 use Rattle.layout.proofs.Places.{on_grid_to, on_grid_from}
 use Rattle.regions.specs.Region.{proper, apart, nearest, touching, within, satisfies, inside, touching_zero, centre}
@@ -22,7 +22,7 @@ use Rattle.regions.specs.declared.region.Region.{Region}
 use Rattle.regions.proofs.Checks.{proper_parts}
 use Rattle.regions.proofs.Points.{outside_by}
 use Rattle.regions.proofs.Squares.{square_more}
-use Rattle.regions.proofs.Zero.{same_test, zero-within, zero-proper, zero-accepted, zero-inside}
+use Rattle.regions.proofs.Zero.{zero-within, zero-proper, zero-accepted, zero-inside}
 use Rattle.covered.specs.Whole.{Lies, Wholly, left, right, bottom, top, farthest, reached, deep, whole_by, whole}
 
 -- ---- the points of a cell
@@ -87,12 +87,11 @@ module _ (a : Rectangle) (r c : ℕ) (c< : c < 256) where
   whole_within = (
     (λ e x y l.
         let s = lies_facts c x y l in
-        let t = simp (and-eq-true_iff, leb_iff) at e in
-        simp (and-eq-true_iff, leb_iff) (((omega arith, omega arith), omega arith), omega arith)),
+        grind (arith, nat_tests)),
     (λ g.
-        let m = simp (and-eq-true_iff, leb_iff) at (g (left c) (bottom c) (lower c c<)) in
-        let n = simp (and-eq-true_iff, leb_iff) at (g (right c) (top c) (upper c c<)) in
-        simp (and-eq-true_iff, leb_iff) (((m.0.0.0, n.0.0.1), m.0.1), n.1)),
+        let m = g (left c) (bottom c) (lower c c<) in
+        let n = g (right c) (top c) (upper c c<) in
+        grind (arith, nat_tests)),
   )
 
 -- the centre question is within with radius 0
@@ -111,35 +110,6 @@ by_kind Centre a r c h c< =
     let w = whole_within a 0 c c< in
     let z = centre_all a r c in
     (λ e. z.0 (w.0 e), λ f. w.1 (z.1 f))
-
--- ---- the test, taken apart
-
-module _ (a : Rectangle) (r c : ℕ) where
-  pub deep_no : (leb (a.x0 + r) (left c) && leb (right c + r) a.x1) ≡ false → deep a r c ≡ false
-  unfolding deep
-  deep_no h = rw h
-
-  pub deep_yes : (leb (a.x0 + r) (left c) && leb (right c + r) a.x1) ≡ true
-      → deep a r c ≡ (leb (a.y0 + r) (bottom c) && leb (top c + r) a.y1)
-  unfolding deep
-  deep_yes h = rw h
-
-module _ (g : Region) (c : ℕ) where
-  pub whole_none : ltb c 256 ≡ false → whole g c ≡ false
-  unfolding whole
-  whole_none h = rw h
-
-  pub whole_reached : ltb c 256 ≡ true → g.kind ≡ Touching → whole g c ≡ reached g.area g.radius c
-  unfolding whole whole_by
-  whole_reached h e = rw (h, e)
-
-  pub whole_deep : ltb c 256 ≡ true → g.kind ≡ Within → whole g c ≡ deep g.area g.radius c
-  unfolding whole whole_by
-  whole_deep h e = rw (h, e)
-
-  pub whole_centre : ltb c 256 ≡ true → g.kind ≡ Centre → whole g c ≡ deep g.area 0 c
-  unfolding whole whole_by
-  whole_centre h e = rw (h, e)
 
 -- ---- the law
 
@@ -162,10 +132,12 @@ pub zero-whole : (a : Rectangle) → Proper a → (c : ℕ) → whole (touching_
 zero-whole a h c =
     let t = zero-accepted a h in
     let q = sym (zero-proper a) ∙ t in
-    same_test (whole (touching_zero a) c) (whole (centre a) c)
-    (λ e.
-    let c< = whole_below (touching_zero a) c e in
-    (whole_iff (centre a) c q c<).1 (λ x y l. sym (zero-inside a h x y) ∙ (whole_iff (touching_zero a) c t c<).0 e x y l))
-    (λ e.
-    let c< = whole_below (centre a) c e in
-    (whole_iff (touching_zero a) c t c<).1 (λ x y l. zero-inside a h x y ∙ (whole_iff (centre a) c q c<).0 e x y l))
+    same_from_decides (whole (touching_zero a) c) (whole (centre a) c) (
+      (λ e.
+          let c< = whole_below (touching_zero a) c e in
+          (whole_iff (centre a) c q c<).1 (λ x y l. sym (zero-inside a h x y) ∙ (whole_iff (touching_zero a) c t c<).0 e x y l)),
+      (λ e.
+          let c< = whole_below (centre a) c e in
+          (whole_iff (touching_zero a) c t c<).1 (λ x y l. zero-inside a h x y ∙ (whole_iff (centre a) c q c<).0 e x y l)),
+    )
+    (λ h. h, λ h. h)

@@ -1,15 +1,12 @@
 -- The routine that names the next cell of a walk, and says of it whether it lies wholly inside (document 02, g).
-use Rattle.std.proofs.Math.Option.{Option, none, some}
+use Rattle.std.specs.Prelude.{Option, None, Some}
 use Rattle.std.specs.Prelude.{ℕ}
 use Rattle.base.specs.Outcome.{Outcome, done, and_then}
-use Rattle.base.specs.Step.{Said, said}
 use Rattle.layout.specs.declared.question.Visit.{Visit as Cell}
 use Rattle.regions.specs.Region as region
 use Rattle.regions.specs.declared.region.Region.{Region}
 use Rattle.covered.specs.Whole.{whole}
 use Rattle.covered.specs.declared.visit.Visit.{Visit}
-use Rattle.covered.specs.declared.visit.NextVisit.{NextVisit}
-use Rattle.covered.specs.declared.visit.NextVisit.TheVariants.{Corrupt, End, Cell as Next}
 
 -- a cell with whether it lies wholly inside
 abbrev pub visit : Region → ℕ → Visit
@@ -19,15 +16,9 @@ abbrev pub first_visit : Region → Visit
 first_visit g = visit g (region.first_visit g).cell
 
 abbrev pub marked : Region → Option Cell → Option Visit
-marked g none = none
-marked g (some v) = some (visit g v.cell)
+marked g None = None
+marked g (Some v) = Some (visit g v.cell)
 
 -- the cell after c, none after the last
 unfoldable pub next_visit : Region → ℕ → Outcome (Option Visit)
 next_visit g c = and_then (region.next g c) (λ v. done (marked g v))
-
--- broken tables: 12; no further cell: 0 and none; else 0 and the cell
-abbrev pub next_visit_says : NextVisit → Said (Option Visit)
-next_visit_says Corrupt = said 12 none
-next_visit_says End = said 0 (some none)
-next_visit_says (Next v) = said 0 (some (some v))

@@ -1,53 +1,42 @@
 // The cells of a scan, each with whether every point of it satisfies the question.
 ghost use Rattle.std.specs.Prelude.{◌≡◌};
-ghost use Rattle.base.specs.Step.{told};
-ghost use Rattle.covered.specs.Visit.{first_visit, next_visit, next_visit_says};
+ghost use Rattle.base.specs.Answer.{outcome_of};
+ghost use Rattle.covered.specs.Visit.{visit, first_visit, next_visit};
 
 use crate::whole::is_whole;
-use layout::question::NextCell;
+use base::Corrupt;
 use regions::region::Region;
 use regions::scan::{first_cell, next_cell};
 
-#[derive(Clone, Copy)]
+#[derive(Clone, Copy, Debug, PartialEq, Eq)]
 pub struct Visit {
     pub cell: u32,
     pub whole: bool,
 }
 
-// What comes after a cell of the scan: another one, or the end. Corrupt where the cell is none of the scan's.
-#[derive(Clone, Copy)]
-pub enum NextVisit {
-    Corrupt,
-    End,
-    Cell(Visit),
+impl Visit {
+    // A cell with whether every point of it satisfies the question.
+    fn new(g: Region, cell: u32) -> Visit
+        ensures { result ≡ visit g cell }
+    {
+        Visit {
+            cell,
+            whole: is_whole(g, cell),
+        }
+    }
 }
 
 // The first cell of the scan.
 pub fn first_visit(g: Region) -> Visit
     ensures { result ≡ first_visit g }
 {
-    let v = first_cell(g);
-    let whole = is_whole(g, v.cell);
-    Visit {
-        cell: v.cell,
-        whole,
-    }
+    Visit::new(g, first_cell(g).cell)
 }
 
-// The cell after a given one.
-pub fn next_visit(g: Region, cell: u32) -> NextVisit
-    ensures { told (next_visit g cell) ≡ next_visit_says result }
+// The cell after a given one, or none after the last. Corrupt where the cell is none of the scan's.
+pub fn next_visit(g: Region, cell: u32) -> Result<Option<Visit>, Corrupt>
+    ensures { outcome_of result ≡ next_visit g cell }
 {
-    let next = next_cell(g, cell);
-    match next {
-        NextCell::Corrupt => NextVisit::Corrupt,
-        NextCell::End => NextVisit::End,
-        NextCell::Cell(v) => {
-            let whole = is_whole(g, v.cell);
-            NextVisit::Cell(Visit {
-                cell: v.cell,
-                whole,
-            })
-        }
-    }
+    let next = next_cell(g, cell)?;
+    Ok(next.map(|v| Visit::new(g, v.cell)))
 }

@@ -4,16 +4,16 @@ ghost use Rattle.covered.specs.Whole.{reached, deep, whole};
 
 use base::CELL_COUNT;
 use layout::question::Question as Rectangle;
-use regions::inside::{is_close, is_deep, larger};
+use regions::inside::{is_close, is_deep};
 use regions::region::{Kind, Region};
-use regions::scan::lowered;
 
 // How far the farther end of the 1,024 coordinates from first on lies outside an interval.
 fn farthest(low: u32, high: u32, first: u32) -> u32
     requires { first < 16384 }
     ensures { result ≡ max (low - first) (first + 1023 - high) }
 {
-    larger(lowered(low, first), lowered(first + 1023, high))
+    low.saturating_sub(first)
+        .max((first + 1023).saturating_sub(high))
 }
 
 // Whether the corner of a cell that lies farthest from the rectangle is at most the radius away.
@@ -32,25 +32,19 @@ fn is_deep_cell(a: Rectangle, radius: u32, cell: u32) -> bool
     ensures { result ≡ deep a radius cell }
 {
     let left = cell % 16 * 1024;
-    if !is_deep(a.x0, a.x1, radius, left, left + 1023) {
-        return false;
-    }
     let bottom = cell / 16 * 1024;
-    is_deep(a.y0, a.y1, radius, bottom, bottom + 1023)
+    is_deep(a.x0, a.x1, radius, left, left + 1023)
+        && is_deep(a.y0, a.y1, radius, bottom, bottom + 1023)
 }
 
 // Whether there is such a cell and every point of it satisfies the question.
 pub fn is_whole(g: Region, cell: u32) -> bool
     ensures { result ≡ whole g cell }
 {
-    if cell >= CELL_COUNT {
-        return false;
-    }
-    let kind = g.kind;
-    let area = g.area;
-    match kind {
-        Kind::Touching => is_reached(area, g.radius, cell),
-        Kind::Within => is_deep_cell(area, g.radius, cell),
-        Kind::Centre => is_deep_cell(area, 0, cell),
-    }
+    cell < CELL_COUNT
+        && match g.kind {
+            Kind::Touching => is_reached(g.area, g.radius, cell),
+            Kind::Within => is_deep_cell(g.area, g.radius, cell),
+            Kind::Centre => is_deep_cell(g.area, 0, cell),
+        }
 }

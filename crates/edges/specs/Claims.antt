@@ -2,7 +2,7 @@
 -- a bucket awaiting its return under a reader, a moved tuple of another object, of both kinds, a bucket that another
 -- update still names, an index that wraps. One table, one proof.
 use Rattle.std.specs.Prelude.{◌≡◌, refl, List, [], ◌∷◌, ◌++◌, ℕ, zero, suc, ◌+◌, eqb, ℤ, pos, negsuc, get_or, drop, set, replicate}
-use Rattle.std.proofs.Math.Option.{Option, none, some}
+use Rattle.std.specs.Prelude.{Option, None, Some}
 use Rattle.base.specs.Outcome.{pick}
 use Rattle.base.specs.Table.{at}
 use Rattle.layout.specs.Place.{cell_of}
@@ -41,8 +41,8 @@ each count [] = []
 each count (b ∷ l) = at count b ∷ each count l
 
 counts_in : List ℕ → Option (List ℕ) → List ℕ
-counts_in count none = []
-counts_in count (some l) = each count l
+counts_in count None = []
+counts_in count (Some l) = each count l
 
 -- the tuples of the buckets of a cell, from the first bucket on
 along : List Call → ℕ → List ℕ
@@ -54,8 +54,8 @@ readers_of cs b = let g = run cs empty_grid in at g.tables.readers b ∷ standin
 
 -- an object's current and previous place, as numbers
 places : Option Entry → List ℕ
-places none = []
-places (some e) = e.current ∷ e.previous ∷ []
+places None = []
+places (Some e) = e.current ∷ e.previous ∷ []
 
 -- 1 for a stamp above zero, 2 for one below
 signed : ℤ → ℕ
@@ -89,12 +89,12 @@ moved_former = report 7 100 100 7 ++ report 8 200 200 7 ++ report 8 1100 100 8 +
 -- ---- where each bucket is
 
 list_or : Option (List ℕ) → List ℕ
-list_or none = []
-list_or (some l) = l
+list_or None = []
+list_or (Some l) = l
 
 one_or : Option ℕ → List ℕ
-one_or none = []
-one_or (some b) = b ∷ []
+one_or None = []
+one_or (Some b) = b ∷ []
 
 -- the buckets of the chains of the cells below n
 in_chains : Tables → ℕ → List ℕ
@@ -165,8 +165,8 @@ entries cs =
 -- ---- locks
 
 lock_of : Option Entry → ℕ
-lock_of none = 1000
-lock_of (some e) = e.lock
+lock_of None = 1000
+lock_of (Some e) = e.lock
 
 -- what lane 0 holds: its cell and its objects; and the locks of cell 0, of cell 2 and of objects 7 and 8
 locks_of : List Call → List ℕ

@@ -18,14 +18,6 @@ use Rattle.erase.specs.Erase.{erasing_of}
 use Rattle.erase.specs.On.{erasing_in, put_erasing}
 use Rattle.erase.proofs.Entries.{Sized}
 
--- what stays in range of the words after two stores, and after three
-module _ (w : List ℕ) (w# : length w ≡ WORDS) (a x b y n : ℕ) (h : n < WORDS) where
-  pub after_two : n < length (set (set w a x) b y)
-  after_two = omega (arith, length-set w a x, length-set (set w a x) b y)
-
-  pub after_three : (c z : ℕ) → n < length (set (set (set w a x) b y) c z)
-  after_three c z = omega (arith, length-set w a x, length-set (set w a x) b y, length-set (set (set w a x) b y) c z)
-
 abbrev freed : Tables → ℕ → Tables
 freed t c = with_cells t (set t.cells c 0)
 

@@ -1,9 +1,9 @@
 -- Document 01's starred trials (trials at the bench) as rows of one table, and one proof that covers the table.
 -- A row has what a definition gives and what document 01 says it gives.
 use Rattle.std.specs.Prelude.{◌≡◌, refl, List, [], ◌∷◌, ◌++◌, ℕ, zero, suc, length, drop, get_or}
-use Rattle.std.proofs.Math.Option.{Option, none, some}
+use Rattle.std.specs.Prelude.{Option, None, Some}
 use Rattle.base.specs.Lists.{numbers_from}
-use Rattle.base.specs.Outcome.{pick, one, need, await, and_then}
+use Rattle.base.specs.Outcome.{pick, one, need, awaits, and_then}
 use Rattle.layout.specs.Place.{on_grid, cell_of, encode, decode}
 use Rattle.layout.specs.Question.{corners, corners_on, ordered}
 use Rattle.regions.specs.Region.{centre, cells_touched}
@@ -91,8 +91,8 @@ collected cs = let a = (call (collect 0 1024) (run cs empty_grid)).0 in a.number
 
 -- the account of the last query of lane 0 after the calls: its steps, K, N, whether it has finished, what was found in its cells, and the tally's count
 account_by : Option Sweep → ℕ → List ℕ
-account_by none n = []
-account_by (some q) n = q.steps ∷ cells_touched q.question ∷ length q.objects ∷ bit q.finished ∷ total q.entered ∷ n ∷ []
+account_by None n = []
+account_by (Some q) n = q.steps ∷ cells_touched q.question ∷ length q.objects ∷ bit q.finished ∷ total q.entered ∷ n ∷ []
 
 pub account : List Call → List ℕ
 account cs = let past = history cs empty_grid [] in account_by (latest 0 (queriesOf past)) (tally past 0).count
@@ -127,8 +127,8 @@ stages g (k ∷ ks) = let h = (call k g).1 in stage_no (get_or h.updaters 0 idle
 
 -- how many updates of object k there were during the last query of lane 0
 during_by : Option Sweep → ℕ → List ℕ
-during_by none k = []
-during_by (some q) k = one (q.updates k)
+during_by None k = []
+during_by (Some q) k = one (q.updates k)
 
 pub during : List Call → ℕ → List ℕ
 during cs k = during_by (latest 0 (queriesOf (history cs empty_grid []))) k
@@ -312,7 +312,7 @@ unfolding questions gives says stages stage_no upd during during_by account acco
     enter_free enter_step leave_last leave_step comparable consider read_step scan_on query_start query_step idle_queries
     is_finished isIdleQuery read_query clear_query cleared then_clear collect_query entries_from seen read seen_by idle_updaters after update_start update_step
     stepped started stage_on lift unless is_idle search_has_room right_lengths right_cells right_tuples right_index right_hits
-    need await and_then at_entry attempt draw look take_lock release search probe after# known enter enter_at empty
+    need awaits and_then at_entry attempt draw look take_lock release search probe after# known enter enter_at empty
     members height with_height pool-take pool-give fresh numbers_from encode decode read_place put_place erase_place
     shift stamp_of need_slot stamp_range copy overwrite delete sign sign_of first_bucket need_some last_in lower give_back
     push make_room write raise hold stage1 stage2 stage3 go_back stage14 stage4 stage5 stage6 stage7 free_cell

@@ -2,7 +2,7 @@
 -- what later readings and collections hand out. The empty grid and any good grid at rest are instances (Theorems.antt).
 use mathlib.Core.Path.{◌≡◌, refl, ap, sym, ◌∙◌}
 use mathlib.Core.Bool.{true}
-use mathlib.Core.Option.{some}
+use Rattle.std.specs.Prelude.{Some}
 use mathlib.Core.List.{List}
 use Prim.Native.Nat.{ℕ}
 use Rattle.base.proofs.Table.{clash}
@@ -37,13 +37,13 @@ module _ (g₀ : Grid) (es₀ : List Event) (F₀ : Fine es₀ g₀) (cs : List 
     unfolding event_of recall
     fine = call_fine (step_query q) (run cs g₀) es fine_of
 
-    pub freshness_of : (u : Region) × (question q es ≡ some u) × Freshness es q u (list_of (finished_from g₀ cs q) q)
+    pub freshness_of : (u : Region) × (question q es ≡ Some u) × Freshness es q u (list_of (finished_from g₀ cs q) q)
     freshness_of =
         let w = finishes (run cs g₀) fine_of.good q e in
         let g = finished_from g₀ cs q in
         ((query g q).question, asked es g fine q w.0 w.1, promised es g fine q w.0 w.1)
 
-    pub definition_of : (u : Region) × (question q es ≡ some u) × PaperFreshness es q u
+    pub definition_of : (u : Region) × (question q es ≡ Some u) × PaperFreshness es q u
         (list_of (finished_from g₀ cs q) q)
     definition_of = let w = freshness_of in (w.0, w.1, paper es q w.0 (list_of (finished_from g₀ cs q) q) w.2)
 

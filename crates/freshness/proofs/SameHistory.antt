@@ -6,7 +6,7 @@
 use mathlib.Core.Path.{◌≡◌, refl, sym, ap, ◌∙◌}
 use mathlib.Core.Logic.{◌≢◌, ◌⊎◌, ◌↔◌, inl, inr, ⊎_elim}
 use mathlib.Core.Bool.{Bool, true, false}
-use mathlib.Core.Option.{Option, none, some}
+use Rattle.std.specs.Prelude.{Option, None, Some}
 use mathlib.Core.List.{List, [], ◌∷◌, ◌++◌, map}
 use Prim.Native.Nat.{ℕ, zero, suc, ◌+◌, ◌<◌}
 use native.Mathlib.Omega.{arith}
@@ -43,15 +43,15 @@ use Rattle.freshness.proofs.Past.{Valid, mem_none}
 record Tie (ds : List Entry) (es : List Event) : Type 0 where
   pub under : (l : ℕ) → underWayBy ds l ≡ object_of (under_way l es)
   pub knows : (k : ℕ) → In k (known ds) ↔ Begun k es
-  pub going : (q : ℕ) (s : Sweep) → latest q (sweeps ds) ≡ some s → s.over ≡ false → SameQuery q s es
+  pub going : (q : ℕ) (s : Sweep) → latest q (sweeps ds) ≡ Some s → s.over ≡ false → SameQuery q s es
 
 -- ---- counts
 
 -- a lane counts for an object in both histories
 lane_counts : (k : ℕ) (o : Option Hit) → only_if (object_of o) (λ i. eqb i k) false ≡ of_object k o
 unfolding only_if object_of of_object
-lane_counts k none = refl
-lane_counts k (some h) = refl
+lane_counts k None = refl
+lane_counts k (Some h) = refl
 
 sum_same : (n : ℕ) (f g : ℕ → ℕ) → ((i : ℕ) → f i ≡ g i) → sum_below n f ≡ sum_below n g
 unfolding sum_below
@@ -59,7 +59,7 @@ sum_same zero f g h = refl
 sum_same (suc n) f g h = omega (arith, sum_same n f g h, h n)
 
 -- an update that begins is one more
-module _ (q l : ℕ) (h : Hit) (es : List Event) (l< : l < 8) (free : under_way l es ≡ none) where
+module _ (q l : ℕ) (h : Hit) (es : List Event) (l< : l < 8) (free : under_way l es ≡ None) where
   begun_count : (k : ℕ) → length (updates q k (begins l h ∷ es)) ≡ length (updates q k es) + bit (eqb h.oid k)
   unfolding ended of_object bit
   begun_count k =
@@ -71,7 +71,7 @@ module _ (q l : ℕ) (h : Hit) (es : List Event) (l< : l < 8) (free : under_way 
       omega (arith, updates_count q k es, updates_count q k (begins l h ∷ es))
 
 -- one that ends goes from the lanes to those that have ended
-module _ (q l : ℕ) (h : Hit) (es : List Event) (l< : l < 8) (busy : under_way l es ≡ some h) where
+module _ (q l : ℕ) (h : Hit) (es : List Event) (l< : l < 8) (busy : under_way l es ≡ Some h) where
   over_count : (k : ℕ) → length (updates q k (ends l ∷ es)) ≡ length (updates q k es)
   unfolding of_object bit
   over_count k =
@@ -91,28 +91,28 @@ module _ (q l : ℕ) (h : Hit) (es : List Event) (l< : l < 8) (busy : under_way 
 
 -- ---- the last query of a lane, one event later
 
-some_one : {A : Type 0} {x y : A} → some x ≡ some y → x ≡ y
+some_one : {A : Type 0} {x y : A} → Some x ≡ Some y → x ≡ y
 some_one e = cc
 
 -- the one that is followed
 latest_back : (f : Sweep → Sweep) → ((s : Sweep) → (f s).lane ≡ s.lane) → (q : ℕ) (ss : List Sweep) (s' : Sweep)
-    → latest q (map f ss) ≡ some s' → (s : Sweep) × (latest q ss ≡ some s) × (f s ≡ s')
+    → latest q (map f ss) ≡ Some s' → (s : Sweep) × (latest q ss ≡ Some s) × (f s ≡ s')
 unfolding latest pick
 latest_back f h q [] s' e = clash (cc)
 latest_back f h q (x ∷ ss) s' e =
-    go (eqb x.lane q) (ap (λ (n : ℕ). pick (eqb n q) (some (f x)) (latest q (map f ss))) (sym (h x)) ∙ e)
+    go (eqb x.lane q) (ap (λ (n : ℕ). pick (eqb n q) (Some (f x)) (latest q (map f ss))) (sym (h x)) ∙ e)
     (λ z. latest_back f h q ss s' z)
   where
-    go : (b : Bool) → pick b (some (f x)) (latest q (map f ss)) ≡ some s'
-        → (latest q (map f ss) ≡ some s' → (s : Sweep) × (latest q ss ≡ some s) × (f s ≡ s'))
-        → (s : Sweep) × (pick b (some x) (latest q ss) ≡ some s) × (f s ≡ s')
+    go : (b : Bool) → pick b (Some (f x)) (latest q (map f ss)) ≡ Some s'
+        → (latest q (map f ss) ≡ Some s' → (s : Sweep) × (latest q ss ≡ Some s) × (f s ≡ s'))
+        → (s : Sweep) × (pick b (Some x) (latest q ss) ≡ Some s) × (f s ≡ s')
     go true z k = (x, refl, some_one z)
     go false z k = k z
 
 -- one that is under way was so before
 unfinished : (e : Entry) (ds : List Entry) (q : ℕ) (s' : Sweep)
-    → latest q (map (follow e ds) (sweeps ds)) ≡ some s' → s'.over ≡ false
-    → (s : Sweep) × (latest q (sweeps ds) ≡ some s) × (s.over ≡ false) × (followed e ds s ≡ s')
+    → latest q (map (follow e ds) (sweeps ds)) ≡ Some s' → s'.over ≡ false
+    → (s : Sweep) × (latest q (sweeps ds) ≡ Some s) × (s.over ≡ false) × (followed e ds s ≡ s')
 unfinished e ds q s' l f =
     let w = latest_back (follow e ds) (follow_lane e ds) q (sweeps ds) s' l in
     let s = w.0 in
@@ -158,7 +158,7 @@ module _ (e : Entry) (ds : List Entry) (es : List Event) (T : Tie ds es) where
       → ((q k : ℕ) → length (updates q k es') ≡ length (updates q k es) + bit
       (only_if (deed e).begins (λ b. eqb b.1 k) false))
       → (q : ℕ) (s' : Sweep) → latest q
-      (map (follow e ds) (sweeps ds)) ≡ some s' → s'.over ≡ false → SameQuery q s' es'
+      (map (follow e ds) (sweeps ds)) ≡ Some s' → s'.over ≡ false → SameQuery q s' es'
   going_on es' same more q s' l f =
       let w = unfinished e ds q s' l f in
       let K = T.going q w.0 w.1 w.2 in
@@ -168,7 +168,7 @@ module _ (e : Entry) (ds : List Entry) (es : List Event) (T : Tie ds es) where
       })
 
   -- nothing of these
-  quiet : (deed e).settles ≡ none → (deed e).begins ≡ none → (deed e).ends ≡ none → (deed e).asks ≡ none → Tie (e ∷ ds) es
+  quiet : (deed e).settles ≡ None → (deed e).begins ≡ None → (deed e).ends ≡ None → (deed e).asks ≡ None → Tie (e ∷ ds) es
   unfolding underWayBy known sweeps only_if bit
   quiet n b d a = record {
     under = λ l. rw (n, b, d) (T.under l);
@@ -177,13 +177,13 @@ module _ (e : Entry) (ds : List Entry) (es : List Event) (T : Tie ds es) where
   }
 
   -- an update begins
-  module _ (l : ℕ) (h : Hit) (l< : l < 8) (free : under_way l es ≡ none)
-      (is : deed e ≡ deed_of (some (l, h.oid)) none none none none) where
+  module _ (l : ℕ) (h : Hit) (l< : l < 8) (free : under_way l es ≡ None)
+      (is : deed e ≡ deed_of (Some (l, h.oid)) None None None None) where
     begun_under : (j : ℕ) → underWayBy (e ∷ ds) j ≡ object_of (under_way j (begins l h ∷ es))
     unfolding underWayBy only_if object_of
     begun_under j = at_or j l
-        (λ z. rw (is, z, under_begun l es h) (upd_same (underWayBy ds) l (some h.oid)))
-        (λ n. rw (is, begun_other l es h j n) (upd_other (underWayBy ds) l (some h.oid) j n ∙ T.under j))
+        (λ z. rw (is, z, under_begun l es h) (upd_same (underWayBy ds) l (Some h.oid)))
+        (λ n. rw (is, begun_other l es h j n) (upd_other (underWayBy ds) l (Some h.oid) j n ∙ T.under j))
 
     begun_knows : (k : ℕ) → In k (known (e ∷ ds)) ↔ Begun k (begins l h ∷ es)
     unfolding known only_if
@@ -208,13 +208,13 @@ module _ (e : Entry) (ds : List Entry) (es : List Event) (T : Tie ds es) where
     }
 
   -- an update ends
-  module _ (l : ℕ) (h : Hit) (l< : l < 8) (busy : under_way l es ≡ some h)
-      (is : deed e ≡ deed_of none (some l) none none none) where
+  module _ (l : ℕ) (h : Hit) (l< : l < 8) (busy : under_way l es ≡ Some h)
+      (is : deed e ≡ deed_of None (Some l) None None None) where
     over_under : (j : ℕ) → underWayBy (e ∷ ds) j ≡ object_of (under_way j (ends l ∷ es))
     unfolding underWayBy only_if object_of
     over_under j = at_or j l
-        (λ z. rw (is, z, under_ended l es) (upd_same (underWayBy ds) l none))
-        (λ n. rw (is, ended_other l es j n) (upd_other (underWayBy ds) l none j n ∙ T.under j))
+        (λ z. rw (is, z, under_ended l es) (upd_same (underWayBy ds) l None))
+        (λ n. rw (is, ended_other l es j n) (upd_other (underWayBy ds) l None j n ∙ T.under j))
 
     over : Tie (e ∷ ds) (ends l ∷ es)
     unfolding known sweeps only_if question bit
@@ -226,7 +226,7 @@ module _ (e : Entry) (ds : List Entry) (es : List Event) (T : Tie ds es) where
     }
 
   -- a query is asked
-  module _ (j : ℕ) (u : Region) (is : deed e ≡ deed_of none none (some (j, u)) none none) where
+  module _ (j : ℕ) (u : Region) (is : deed e ≡ deed_of None None (Some (j, u)) None None) where
     -- the new one: no update has ended since, and those under way count
     asked_now : SameQuery j (opened j u ds) (asks j u ∷ es)
     unfolding question pick ended under_way
@@ -242,7 +242,7 @@ module _ (e : Entry) (ds : List Entry) (es : List Event) (T : Tie ds es) where
     }
 
     -- one of another lane
-    asked_other : (q : ℕ) → j ≢ q → (s : Sweep) → latest q (map (follow e ds) (sweeps ds)) ≡ some s
+    asked_other : (q : ℕ) → j ≢ q → (s : Sweep) → latest q (map (follow e ds) (sweeps ds)) ≡ Some s
         → s.over ≡ false → SameQuery q s (asks j u ∷ es)
     unfolding only_if bit under_way
     asked_other q n s w f =
@@ -258,11 +258,11 @@ module _ (e : Entry) (ds : List Entry) (es : List Event) (T : Tie ds es) where
         })
 
     asked_going : (q : ℕ) (s : Sweep)
-        → pick (eqb j q) (some (opened j u ds)) (latest q (map (follow e ds) (sweeps ds))) ≡ some s
+        → pick (eqb j q) (Some (opened j u ds)) (latest q (map (follow e ds) (sweeps ds))) ≡ Some s
         → s.over ≡ false → SameQuery q s (asks j u ∷ es)
     unfolding pick
     asked_going q s w f = at_or j q
-        (λ z. let y : some (opened j u ds) ≡ some s = rw (eq-eqb j q z) at w in rw (← z, ← some_one y) asked_now)
+        (λ z. let y : Some (opened j u ds) ≡ Some s = rw (eq-eqb j q z) at w in rw (← z, ← some_one y) asked_now)
         (λ n. asked_other q n s (rw (ne_eqb j q n) at w) f)
 
     asked : Tie (e ∷ ds) (asks j u ∷ es)
@@ -275,10 +275,10 @@ module _ (e : Entry) (ds : List Entry) (es : List Event) (T : Tie ds es) where
 
 -- ---- one call
 
-begun_valid : {l : ℕ} {h : Hit} {es : List Event} → Valid (begins l h ∷ es) → (l < 8) × (under_way l es ≡ none)
+begun_valid : {l : ℕ} {h : Hit} {es : List Event} → Valid (begins l h ∷ es) → (l < 8) × (under_way l es ≡ None)
 begun_valid (Valid.begun l< free v) = (l<, free)
 
-over_valid : {l : ℕ} {es : List Event} → Valid (ends l ∷ es) → (h : Hit) × (l < 8) × (under_way l es ≡ some h)
+over_valid : {l : ℕ} {es : List Event} → Valid (ends l ∷ es) → (h : Hit) × (l < 8) × (under_way l es ≡ Some h)
 over_valid (Valid.over h l< busy v) = (h, l<, busy)
 
 module _ (g : Grid) (ds : List Entry) (es : List Event) (T : Tie ds es) where
@@ -289,8 +289,8 @@ module _ (g : Grid) (ds : List Entry) (es : List Event) (T : Tie ds es) where
 
   -- nor does one that begins, ends and asks nothing
   idle_call : (c : Call)
-      → ((n : ℕ) → ((accepted c n).settles ≡ none) × ((accepted c n).begins ≡ none) × ((accepted c n).ends ≡ none) ×
-      ((accepted c n).asks ≡ none))
+      → ((n : ℕ) → ((accepted c n).settles ≡ None) × ((accepted c n).begins ≡ None) × ((accepted c n).ends ≡ None) ×
+      ((accepted c n).asks ≡ None))
       → Tie (entry_of c g ∷ ds) es
   idle_call c a = by_test (accepted_number (call c g).0.number)
       (λ y.
@@ -366,7 +366,7 @@ history_last [] c g ds = refl
 history_last (x ∷ cs) c g ds = history_last cs c (call x g).1 (entry_of x g ∷ ds)
 
 -- an event that asks nothing
-sweeps_quiet : (e : Entry) (ds : List Entry) → (deed e).settles ≡ none → (deed e).asks ≡ none → sweeps
+sweeps_quiet : (e : Entry) (ds : List Entry) → (deed e).settles ≡ None → (deed e).asks ≡ None → sweeps
     (e ∷ ds) ≡ map (follow e ds) (sweeps ds)
 unfolding sweeps only_if
 sweeps_quiet e ds n a = rw (n, a)
@@ -393,7 +393,7 @@ module _ (cs : List Call) (q : ℕ) (e : Finishes cs q) where
   abbrev last : Entry
   last = entry_of (step_query q) g
 
-  finishing : (s : Sweep) × (latest q (sweeps (account (cs ++ step_query q ∷ []))) ≡ some s) × (s.finished ≡ true)
+  finishing : (s : Sweep) × (latest q (sweeps (account (cs ++ step_query q ∷ []))) ≡ Some s) × (s.finished ≡ true)
       × SameQuery q s (past cs)
   unfolding only_if bit
   finishing =
@@ -402,13 +402,13 @@ module _ (cs : List Call) (q : ℕ) (e : Finishes cs q) where
       let L = R.lasts q p.0 p.1 in
       let s = L.sweep in
       let f : s.over ≡ false = sym L.finished ∙ p.2 in
-      let is : deed last ≡ deed_of none none none (some (q, 22)) none = deed_accepted last 22 refl e refl in
+      let is : deed last ≡ deed_of None None None (Some (q, 22)) None = deed_accepted last 22 refl e refl in
       let ds = account cs in
       let to = latest-map (follow last ds) (follow_lane last ds) q (sweeps ds) s L.last in
       let K = (tied cs).going q s L.last f in (
         followed last (account cs) s,
         ap (λ (ds : List Entry). latest q (sweeps ds)) (history_last cs (step_query q) empty_grid [])
-            ∙ ap (latest q) (sweeps_quiet last (account cs) (rw is) (rw is)) ∙ to ∙ ap some
+            ∙ ap (latest q) (sweeps_quiet last (account cs) (rw is) (rw is)) ∙ to ∙ ap Some
             (follow_on last (account cs) s f),
         rw (is, L.lane, eq-eqb q q refl),
         record { asked = K.asked; during = λ k. rw is (omega (arith, K.during k)) },

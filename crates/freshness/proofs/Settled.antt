@@ -5,7 +5,7 @@
 use mathlib.Core.Path.{◌≡◌, refl}
 use mathlib.Core.Logic.{◌≢◌, ⊎_elim}
 use mathlib.Core.Bool.{false}
-use mathlib.Core.Option.{Option, none, some}
+use Rattle.std.specs.Prelude.{Option, None, Some}
 use mathlib.Core.List.{List, ◌∷◌}
 use Prim.Native.Nat.{ℕ, zero, suc, ◌<◌}
 use lib.Dec.{T}
@@ -40,8 +40,8 @@ use Rattle.freshness.proofs.State.{Here, stands_here_at, Now, not_both}
 
 -- where an object stands, by the tuple at its current place
 pub record Tells (d : St) (f : ℕ → Option Spot) : Type 0 where
-  pub there : (k : ℕ) (p : Place) → (d.ent k).cur ≡ some p → f k ≡ some (spot_of (d.tup p.bucket p.slot))
-  pub stays : (k : ℕ) → f k ≢ none → (d.ent k).cur ≢ none
+  pub there : (k : ℕ) (p : Place) → (d.ent k).cur ≡ Some p → f k ≡ Some (spot_of (d.tup p.bucket p.slot))
+  pub stays : (k : ℕ) → f k ≢ None → (d.ent k).cur ≢ None
 
 module _ {O : StoreOps} {S : Store O} {g : Ghost} {d : St} (I : Inv S g d)
     (idle : (l : ℕ) → l < 8 → (d.lanes l).stage ≡ Idle) where
@@ -70,7 +70,7 @@ module _ {O : StoreOps} {S : Store O} {g : Ghost} {d : St} (I : Inv S g d)
       let k = (d.tup b i).oid in
       let e : g.gh k ≡ plain (d.ent k) = I.free.free k (unlocked I idle k) in
       let w = I.slots.forth b c h i o lt in
-      let w' : sel w.0 (plain (d.ent k)) ≡ some (pl c b i) = rw e at w.1 in
+      let w' : sel w.0 (plain (d.ent k)) ≡ Some (pl c b i) = rw e at w.1 in
       let P : Fit d.tup (plain (d.ent k)) = rw e at (I.fits.fit k) in
       two_kinds (d.ent k).cur (d.ent k).prev false (pl c b i) w.0 w'
       (λ z. stands_here_at (F.there k (pl c b i) z))
@@ -94,29 +94,29 @@ module _ {O : StoreOps} {S : Store O} {g : Ghost} {d : St} (I : Inv S g d)
 
 -- ---- where objects stand, by the tables
 
-by_entry : {C : Type 0} (o : Option Entry) → (o ≡ none → C) → ((e : Entry) → o ≡ some e → C) → C
-by_entry none f h = f refl
-by_entry (some e) f h = h e refl
+by_entry : {C : Type 0} (o : Option Entry) → (o ≡ None → C) → ((e : Entry) → o ≡ Some e → C) → C
+by_entry None f h = f refl
+by_entry (Some e) f h = h e refl
 
-spot_place : (t : Tables) (n : ℕ) (p : Place) → place_f n ≡ some p → spot_at t (decode n) ≡ some (spot_of (tuple_of t p))
+spot_place : (t : Tables) (n : ℕ) (p : Place) → place_f n ≡ Some p → spot_at t (decode n) ≡ Some (spot_of (tuple_of t p))
 unfolding came spot_at
 spot_place t n p e = go (decode n) e
   where
-    go : (o : Outcome (Option Place)) → came none o ≡ some p → spot_at t o ≡ some (spot_of (tuple_of t p))
+    go : (o : Outcome (Option Place)) → came None o ≡ Some p → spot_at t o ≡ Some (spot_of (tuple_of t p))
     go corrupt z = clash (cc)
     go blocked z = clash (cc)
-    go (done none) z = clash (cc)
-    go (done (some q)) z = let w : q ≡ p = cc in rw w
+    go (done None) z = clash (cc)
+    go (done (Some q)) z = let w : q ≡ p = cc in rw w
 
-place_spot : (t : Tables) (n : ℕ) → place_f n ≡ none → spot_at t (decode n) ≡ none
+place_spot : (t : Tables) (n : ℕ) → place_f n ≡ None → spot_at t (decode n) ≡ None
 unfolding came spot_at
 place_spot t n e = go (decode n) e
   where
-    go : (o : Outcome (Option Place)) → came none o ≡ none → spot_at t o ≡ none
+    go : (o : Outcome (Option Place)) → came None o ≡ None → spot_at t o ≡ None
     go corrupt z = refl
     go blocked z = refl
-    go (done none) z = refl
-    go (done (some q)) z = clash (cc)
+    go (done None) z = refl
+    go (done (Some q)) z = clash (cc)
 
 -- what the tables say is what the machine sees
 pub tells_view : (g : Grid) → Good g → ((l : ℕ) → l < 8 → ((view g).lanes l).stage ≡ Idle)
@@ -126,15 +126,15 @@ tells_view g G idle =
     let t = g.tables in
     record {
       there = λ k p e. by_entry (entry_for t.index k)
-          (λ z. let w : none ≡ some p = rw z at e in clash (cc))
+          (λ z. let w : None ≡ Some p = rw z at e in clash (cc))
           (λ en z.
-          let w : place_f en.current ≡ some p = rw z at e in
+          let w : place_f en.current ≡ Some p = rw z at e in
           let gk : G.ghost.gh k ≡ plain ((view g).ent k) = G.inv.free.free k (unlocked G.inv idle k) in
           let low = place_range G.inv k_cur k p (rw gk e) in
           rw (z, tup_at t.tuples p.bucket p.slot low.2) (spot_place t en.current p w));
       stays = λ k n e. by_entry (entry_for t.index k)
           (λ z. n (rw z))
-          (λ en z. let w : place_f en.current ≡ none = rw z at e in n (rw z (place_spot t en.current w)));
+          (λ en z. let w : place_f en.current ≡ None = rw z at e in n (rw z (place_spot t en.current w)));
     }
 
 -- A GOOD GRID AT REST

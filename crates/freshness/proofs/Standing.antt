@@ -4,7 +4,7 @@
 -- (`positive`); there is no such update.
 use mathlib.Core.Path.{◌≡◌, refl, sym, ap, ◌∙◌}
 use mathlib.Core.Logic.{◌≢◌}
-use mathlib.Core.Option.{Option, none, some}
+use Rattle.std.specs.Prelude.{Option, None, Some}
 use mathlib.Core.List.{List}
 use Prim.Native.Nat.{ℕ, ◌<◌}
 use native.Mathlib.Omega.{arith}
@@ -31,19 +31,19 @@ use Rattle.freshness.proofs.Fine.{Fine, with_ghost}
 use Rattle.freshness.proofs.State.{Here, stands_here_at, aims_here}
 
 -- a number that is read as some place
-place_some : (o : Outcome (Option Place)) → came none o ≢ none → (p : Place) × (o ≡ done (some p))
+place_some : (o : Outcome (Option Place)) → came None o ≢ None → (p : Place) × (o ≡ done (Some p))
 unfolding came
 place_some corrupt n = absurd (n refl)
 place_some blocked n = absurd (n refl)
-place_some (done none) n = absurd (n refl)
-place_some (done (some p)) n = (p, refl)
+place_some (done None) n = absurd (n refl)
+place_some (done (Some p)) n = (p, refl)
 
 -- an object with a current place has an entry that names it
-current_some : (o : Option Entry) → (places_f o).cur ≢ none
-    → (e : Entry) × (p : Place) × (o ≡ some e) × (decode e.current ≡ done (some p))
+current_some : (o : Option Entry) → (places_f o).cur ≢ None
+    → (e : Entry) × (p : Place) × (o ≡ Some e) × (decode e.current ≡ done (Some p))
 unfolding places_f
-current_some none n = absurd (n refl)
-current_some (some e) n = let w = place_some (decode e.current) n in (e, w.0, refl, w.1)
+current_some None n = absurd (n refl)
+current_some (Some e) n = let w = place_some (decode e.current) n in (e, w.0, refl, w.1)
 
 module _ (es : List Event) (g : Grid) (F : Fine es g) (rest : NoneUnderWay es) where
   abbrev G : Good g
@@ -53,13 +53,13 @@ module _ (es : List Event) (g : Grid) (F : Fine es g) (rest : NoneUnderWay es) w
   t = g.tables
 
   -- where a tuple may be is where its object stands
-  stands_here : (k : ℕ) (s : Spot) → Here k es s → standing k es ≡ some s
+  stands_here : (k : ℕ) (s : Spot) → Here k es s → standing k es ≡ Some s
   stands_here k s (stands_here_at e) = e
   stands_here k s (aims_here l l< h z o y) = let w = rest l l< in clash (cc)
 
   -- the tuple at a current place
   tuple_stands : (k : ℕ) (p : Place) → p.cell < 256 → HasTuple t k p → positive (tuple_of t p).time
-      → standing k es ≡ some (spot_of (tuple_of t p))
+      → standing k es ≡ Some (spot_of (tuple_of t p))
   unfolding view
   tuple_stands k p c< H z =
       let o = linked g G p.bucket p.cell (c<, (H.chain, H.walked, H.found)) in
@@ -71,7 +71,7 @@ module _ (es : List Event) (g : Grid) (F : Fine es g) (rest : NoneUnderWay es) w
       stands_here k _ (rw H.object at w')
 
   module _ (S : SameTuples t) (C : InTheirCells t) where
-    stands_at : (k : ℕ) (s : Spot) → standing k es ≡ some s → StandsAt t k s
+    stands_at : (k : ℕ) (s : Spot) → standing k es ≡ Some s → StandsAt t k s
     unfolding view
     stands_at k s e =
         let w = current_some (entry_for t.index k) (F.fresh.now.stays k (λ z. clash (cc))) in
@@ -79,7 +79,7 @@ module _ (es : List Event) (g : Grid) (F : Fine es g) (rest : NoneUnderWay es) w
         let X = S.current k w.0 p w.2 w.3 in
         let H = X.0 in
         let c< = (decode_range _ p w.3).0 in
-        let y : some (spot_of (tuple_of t p)) ≡ some s = sym (tuple_stands k p c< H X.1) ∙ e in
+        let y : Some (spot_of (tuple_of t p)) ≡ Some s = sym (tuple_stands k p c< H X.1) ∙ e in
         let y' : spot_of (tuple_of t p) ≡ s = cc in
         let there = (C p H.chain c< H.walked H.found H.counted).0 in
         record {
@@ -93,10 +93,10 @@ module _ (es : List Event) (g : Grid) (F : Fine es g) (rest : NoneUnderWay es) w
           spot = y';
         }
 
-    at_stands : (k : ℕ) (s : Spot) → StandsAt t k s → standing k es ≡ some s
+    at_stands : (k : ℕ) (s : Spot) → StandsAt t k s → standing k es ≡ Some s
     at_stands k s A =
         let c< = (decode_range _ A.place A.current).0 in
-        tuple_stands k A.place c< A.has A.stamped ∙ ap some A.spot
+        tuple_stands k A.place c< A.has A.stamped ∙ ap Some A.spot
 
     pub where_it_stands : WhereItStands es t
     where_it_stands k s = (stands_at k s, at_stands k s)

@@ -3,7 +3,7 @@
 -- An update is during a query (a sweep) if it is under way at any moment from the query's accepted start on. Such an update has ended since that start, or is under way now: these two kinds are listed below.
 -- Its places are the one reported and the one standing just before it ends, or now if it is still under way; a first update has none before.
 use Rattle.std.specs.Prelude.{◌≡◌, Bool, true, false, not, ◌&&◌, List, [], ◌∷◌, ◌++◌, ℕ, zero, suc, ◌<◌, eqb}
-use Rattle.std.proofs.Math.Option.{Option, none, some}
+use Rattle.std.specs.Prelude.{Option, None, Some}
 use Rattle.base.specs.Numbers.{FINISHED}
 use Rattle.base.specs.Outcome.{pick}
 use Rattle.regions.specs.declared.region.Region.{Region}
@@ -28,19 +28,19 @@ pub data Event : Type 0 where
 
 -- what a call and the number that it gives tell, if anything: an accepted start, or a step of an update that gives 22
 unfoldable pub event_of : Call → ℕ → Option Event
-event_of (start_update l k x y m) n = pick (refused n) none (some (begins l (hit k (record { x = x; y = y; tag = m }))))
-event_of (step_update l) n = pick (eqb n FINISHED) (some (ends l)) none
-event_of (start_query q u) n = pick (refused n) none (some (asks q u))
-event_of (step_query q) n = none
-event_of (collect q m) n = none
-event_of (read q m) n = none
-event_of (clear q) n = none
-event_of rewind n = none
+event_of (start_update l k x y m) n = pick (refused n) None (Some (begins l (hit k (record { x = x; y = y; tag = m }))))
+event_of (step_update l) n = pick (eqb n FINISHED) (Some (ends l)) None
+event_of (start_query q u) n = pick (refused n) None (Some (asks q u))
+event_of (step_query q) n = None
+event_of (collect q m) n = None
+event_of (read q m) n = None
+event_of (clear q) n = None
+event_of rewind n = None
 
 -- one event more, if there is one; the last stands first
 unfoldable pub recall : Option Event → List Event → List Event
-recall none es = es
-recall (some e) es = e ∷ es
+recall None es = es
+recall (Some e) es = e ∷ es
 
 -- the events of calls with their answers, after those of es
 unfoldable pub events : List Call → List Answer → List Event → List Event
@@ -56,20 +56,20 @@ past cs = events cs (answers cs empty_grid) []
 
 -- the update under way in a lane: its object and the place reported
 unfoldable pub under_way : ℕ → List Event → Option Hit
-under_way l [] = none
-under_way l (settles f ∷ es) = none
-under_way l (begins j h ∷ es) = pick (eqb j l) (some h) (under_way l es)
-under_way l (ends j ∷ es) = pick (eqb j l) none (under_way l es)
+under_way l [] = None
+under_way l (settles f ∷ es) = None
+under_way l (begins j h ∷ es) = pick (eqb j l) (Some h) (under_way l es)
+under_way l (ends j ∷ es) = pick (eqb j l) None (under_way l es)
 under_way l (asks j u ∷ es) = under_way l es
 
 -- where object k stands once an update has ended, s being where it stood
 unfoldable pub settled : ℕ → Option Hit → Option Spot → Option Spot
-settled k none s = s
-settled k (some h) s = pick (eqb h.oid k) (some h.spot) s
+settled k None s = s
+settled k (Some h) s = pick (eqb h.oid k) (Some h.spot) s
 
 -- where an object stands: the place of its last ended update
 unfoldable pub standing : ℕ → List Event → Option Spot
-standing k [] = none
+standing k [] = None
 standing k (settles f ∷ es) = f k
 standing k (begins j h ∷ es) = standing k es
 standing k (ends j ∷ es) = settled k (under_way j es) (standing k es)
@@ -77,17 +77,17 @@ standing k (asks j u ∷ es) = standing k es
 
 -- no update is under way
 abbrev pub NoneUnderWay : List Event → Type 0
-NoneUnderWay es = (l : ℕ) → l < 8 → under_way l es ≡ none
+NoneUnderWay es = (l : ℕ) → l < 8 → under_way l es ≡ None
 
 -- ---- queries
 
 -- the question of the query of lane q, by its last accepted start
 unfoldable pub question : ℕ → List Event → Option Region
-question q [] = none
-question q (settles f ∷ es) = none
+question q [] = None
+question q (settles f ∷ es) = None
 question q (begins j h ∷ es) = question q es
 question q (ends j ∷ es) = question q es
-question q (asks j u ∷ es) = pick (eqb j q) (some u) (question q es)
+question q (asks j u ∷ es) = pick (eqb j q) (Some u) (question q es)
 
 -- an update with its two places: the one reported, and the one before
 pub record Update : Type 0 where
@@ -99,8 +99,8 @@ update_of s b = record { place = s; before = b }
 
 -- one update more, if there is one and it is of object k, which stands at s
 unfoldable pub and_update : ℕ → Option Hit → Option Spot → List Update → List Update
-and_update k none s rs = rs
-and_update k (some h) s rs = pick (eqb h.oid k) (update_of h.spot s ∷ rs) rs
+and_update k None s rs = rs
+and_update k (Some h) s rs = pick (eqb h.oid k) (update_of h.spot s ∷ rs) rs
 
 -- the updates of object k that have ended since the query of lane q began, the last first
 unfoldable pub ended : ℕ → ℕ → List Event → List Update
@@ -120,8 +120,8 @@ unfoldable pub updates : ℕ → ℕ → List Event → List Update
 updates q k es = going k 8 es ++ ended q k es
 
 unfoldable pub and_place : Option Spot → List Spot → List Spot
-and_place none ss = ss
-and_place (some s) ss = s ∷ ss
+and_place None ss = ss
+and_place (Some s) ss = s ∷ ss
 
 unfoldable pub places_of : List Update → List Spot
 places_of [] = []

@@ -3,7 +3,7 @@
 -- Claimed here of a list of calls: both say the same of the updates under way, of the objects known, and of the
 -- updates during a query, so that 'one update of an object' means the same in both.
 use Rattle.std.specs.Prelude.{◌≡◌, true, false, ◌↔◌, List, [], ◌∷◌, ◌++◌, ℕ, length}
-use Rattle.std.proofs.Math.Option.{Option, none, some}
+use Rattle.std.specs.Prelude.{Option, None, Some}
 use Rattle.base.specs.Lists.{In}
 use Rattle.grid.specs.Run.{Call, step_query, empty_grid}
 use Rattle.base.specs.Spot.{Hit, Mem}
@@ -17,8 +17,8 @@ account cs = history cs empty_grid []
 
 -- the object of an update
 unfoldable pub object_of : Option Hit → Option ℕ
-object_of none = none
-object_of (some h) = some h.oid
+object_of None = None
+object_of (Some h) = Some h.oid
 
 -- an update of object k has begun
 pub record Begun (k : ℕ) (es : List Event) : Type 0 where
@@ -30,7 +30,7 @@ pub record Begun (k : ℕ) (es : List Event) : Type 0 where
 -- a query of demand 3 is that of lane q in the history of demand 2: the same question, as many updates of each
 -- object during it
 pub record SameQuery (q : ℕ) (s : Sweep) (es : List Event) : Type 0 where
-  pub asked : question q es ≡ some s.question
+  pub asked : question q es ≡ Some s.question
   pub during : (k : ℕ) → s.updates k ≡ length (updates q k es)
 
 -- THE CLAIM about a list of calls
@@ -40,10 +40,10 @@ pub record SameHistory (cs : List Call) : Type 0 where
   -- the objects known: those of which an update has begun
   pub knows : (k : ℕ) → In k (known (account cs)) ↔ Begun k (past cs)
   -- a query that is under way
-  pub going : (q : ℕ) (s : Sweep) → latest q (sweeps (account cs)) ≡ some s → s.over ≡ false
+  pub going : (q : ℕ) (s : Sweep) → latest q (sweeps (account cs)) ≡ Some s → s.over ≡ false
       → SameQuery q s (past cs)
   -- the query that the next step finishes, as that step leaves it (a finished one stays as it was: `follow` of
   -- Account.antt)
   pub finishing : (q : ℕ) → Finishes cs q
-      → (s : Sweep) × (latest q (sweeps (account (cs ++ step_query q ∷ []))) ≡ some s) × (s.finished ≡ true)
+      → (s : Sweep) × (latest q (sweeps (account (cs ++ step_query q ∷ []))) ≡ Some s) × (s.finished ≡ true)
       × SameQuery q s (past cs)

@@ -1,7 +1,7 @@
 -- WHERE THE OBJECTS OF A GRID AT REST STAND, by the tuples at their current places, and the history of a list of
 -- calls that is made on such a grid, whatever made it: first everything is settled as the grid has it, then comes
 -- what the calls and answers tell.
-use Rattle.std.proofs.Math.Option.{Option, none, some}
+use Rattle.std.specs.Prelude.{Option, None, Some}
 use Rattle.std.specs.Prelude.{List, [], ◌∷◌, ℕ}
 use Rattle.base.specs.Outcome.{Outcome, corrupt, blocked, done}
 use Rattle.layout.specs.Place.{decode}
@@ -16,15 +16,15 @@ use Rattle.freshness.specs.History.{Event, settles, events}
 
 -- the spot of the tuple at a place, if there is one
 unfoldable pub spot_at : Tables → Outcome (Option Place) → Option Spot
-spot_at t corrupt = none
-spot_at t blocked = none
-spot_at t (done none) = none
-spot_at t (done (some p)) = some (spot_of (tuple_of t p))
+spot_at t corrupt = None
+spot_at t blocked = None
+spot_at t (done None) = None
+spot_at t (done (Some p)) = Some (spot_of (tuple_of t p))
 
 -- where the object of an entry stands
 unfoldable pub entry_spot : Tables → Option Entry → Option Spot
-entry_spot t none = none
-entry_spot t (some e) = spot_at t (decode e.current)
+entry_spot t None = None
+entry_spot t (Some e) = spot_at t (decode e.current)
 
 -- where an object stands
 unfoldable pub stands_in : Tables → ℕ → Option Spot

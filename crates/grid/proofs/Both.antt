@@ -3,7 +3,6 @@ use mathlib.Core.Path.{◌≡◌, refl}
 use mathlib.Core.List.{[]}
 use Prim.Native.Nat.{ℕ}
 use Rattle.base.specs.Outcome.{pick}
-use Rattle.base.proofs.Table.{clash}
 use Rattle.calls.specs.Call.{Result, After, after}
 use Rattle.collect.specs.Collect.{Handed, handed_of, clear_query, cleared, then_clear, collect_query}
 use Rattle.collect.proofs.Cases.{clear_passes, read_cases}
@@ -34,4 +33,4 @@ module _ (l n : ℕ) (g : Grid) where
   unfolding call after
   clear_after_read =
       read_cases g.tables g.queries l n (λ (r : Result Handed). (ended r).number ≡ 0 → (after g.tables g.queries (clear_query g.tables g.queries l)).number ≡ 0)
-      (λ e. clash (cc)) (λ e. clash (cc)) (λ e. clash (cc)) (λ e. clash (cc)) (λ e. clash (cc)) (λ R e. rw (clear_passes g.tables g.queries l R.query))
+      (λ e. cc) (λ e. cc) (λ e. cc) (λ e. cc) (λ e. cc) (λ R e. rw (clear_passes g.tables g.queries l R.query))

@@ -1,18 +1,21 @@
 -- The words as the fillings leave them, one after the other, and that they are the empty grid: a closed run, so it computes.
 use mathlib.Core.Path.{◌≡◌, refl, ap, sym, ◌∙◌}
-use mathlib.Core.Bool.{true, false}
+use mathlib.Core.Bool.{true}
 use mathlib.Core.List.{List}
 use Prim.Native.Nat.{ℕ}
+use native.Mathlib.Omega.{arith}
 use lib.IntN.{ℤ, pos}
 use lib.ListN.{length, replicate}
 use Rattle.base.specs.Lists.{numbers_from}
-use Rattle.base.specs.Outcome.{corrupt, done}
-use Rattle.base.proofs.Table.{clash}
+use Rattle.std.specs.Prelude.{Result, Ok, Err, IsOk, ⊤}
+use Rattle.base.specs.Outcome.{Told, tells, leaves}
+use Rattle.base.specs.Promise.{Changes}
+use Rattle.base.specs.declared.Corrupt.{Corrupt}
 use Rattle.words.specs.Map.{FIRST, NEXT, POOL, WORDS, TIMES, CURRENT}
 use Rattle.words.specs.Part.{part, put}
 use Rattle.index.specs.Index.{empty}
 use Rattle.pool.specs.Pool.{fresh, refill}
-use Rattle.pool.proofs.Laws.{refill_some, refill_fresh}
+use Rattle.pool.proofs.Laws.{refill_some}
 use Rattle.tables.specs.Tables.{Tables, right_lengths, with_times, empty_tables}
 use Rattle.tables.specs.Grid.{grid}
 use Rattle.calls.specs.Call.{after, after_of, unless}
@@ -39,68 +42,48 @@ places = put CURRENT 1024 (replicate 1024 524288) nexts
 abbrev pools : List ℕ
 pools = put POOL 513 fresh places
 
-pub emptied : (ts : List ℤ) → grid pools ts ≡ with_times empty_tables ts
+emptied : (ts : List ℤ) → grid pools ts ≡ with_times empty_tables ts
 unfolding grid empty_tables empty fresh numbers_from
 emptied ts = refl
 
 module _ (w₀ w : List ℕ) (w# : length w₀ ≡ WORDS) (e : w ≡ replicate (length w₀) 0) where
-  pub to_zeros : w ≡ zeros
+  to_zeros : w ≡ zeros
   to_zeros = e ∙ ap (λ (n : ℕ). replicate n 0) w#
 
-  pub zeros_length : length w ≡ WORDS
-  zeros_length = ap length to_zeros
-
   module _ (f : List ℕ) (ef : f ≡ replicate (length (part FIRST 256 w)) 512) where
-    pub to_firsts : put FIRST 256 f w ≡ firsts
+    to_firsts : put FIRST 256 f w ≡ firsts
     to_firsts =
         let h : f ≡ replicate 256 512 = ef ∙ ap (λ (l : List ℕ). replicate (length (part FIRST 256 l)) 512) to_zeros in
         λ j. put FIRST 256 (h j) (to_zeros j)
 
-    pub firsts_length : length (put FIRST 256 f w) ≡ WORDS
-    firsts_length = ap length to_firsts
-
     module _ (n : List ℕ) (en : n ≡ replicate (length (part NEXT 512 (put FIRST 256 f w))) 512) where
-      pub to_nexts : put NEXT 512 n (put FIRST 256 f w) ≡ nexts
+      to_nexts : put NEXT 512 n (put FIRST 256 f w) ≡ nexts
       to_nexts =
           let h : n ≡ replicate 512 512 = en ∙ ap (λ (l : List ℕ). replicate (length (part NEXT 512 l)) 512) to_firsts in
           λ j. put NEXT 512 (h j) (to_firsts j)
 
-      pub nexts_length : length (put NEXT 512 n (put FIRST 256 f w)) ≡ WORDS
-      nexts_length = ap length to_nexts
-
       module _ (p : List ℕ) (ep : p ≡ replicate (length (part CURRENT 1024 (put NEXT 512 n (put FIRST 256 f w)))) 524288) where
-        pub to_places : put CURRENT 1024 p (put NEXT 512 n (put FIRST 256 f w)) ≡ places
+        to_places : put CURRENT 1024 p (put NEXT 512 n (put FIRST 256 f w)) ≡ places
         to_places =
             let h : p ≡ replicate 1024 524288 = ep ∙ ap (λ (l : List ℕ). replicate (length (part CURRENT 1024 l)) 524288) to_nexts in
             λ j. put CURRENT 1024 (h j) (to_nexts j)
 
-        pub places-length : length (put CURRENT 1024 p (put NEXT 512 n (put FIRST 256 f w))) ≡ WORDS
-        places-length = ap length to_places
+        module _ (q : List ℕ) (eq : q ≡ fresh) where
+          to_pools : put POOL 513 q (put CURRENT 1024 p (put NEXT 512 n (put FIRST 256 f w))) ≡ pools
+          to_pools = λ j. put POOL 513 (eq j) (to_places j)
 
-        pub pool_length : length (part POOL 513 (put CURRENT 1024 p (put NEXT 512 n (put FIRST 256 f w)))) ≡ 513
-        pool_length = ap (λ (l : List ℕ). length (part POOL 513 l)) to_places
-
-        -- the pool is not refused
-        pub pool_refused : refill (part POOL 513 (put CURRENT 1024 p (put NEXT 512 n (put FIRST 256 f w)))) ≡ corrupt → ⊥
-        pool_refused r = let s = refill_some (part POOL 513 (put CURRENT 1024 p (put NEXT 512 n (put FIRST 256 f w)))) pool_length in clash (cc)
-
-        module _ (q : List ℕ) (eq : refill (part POOL 513 (put CURRENT 1024 p (put NEXT 512 n (put FIRST 256 f w)))) ≡ done q) where
-          pub to_pools : put POOL 513 q (put CURRENT 1024 p (put NEXT 512 n (put FIRST 256 f w))) ≡ pools
-          to_pools = let h : q ≡ fresh = refill_fresh _ q eq in λ j. put POOL 513 (h j) (to_places j)
-
-          pub pools_length : length (put POOL 513 q (put CURRENT 1024 p (put NEXT 512 n (put FIRST 256 f w)))) ≡ length w₀
-          unfolding fresh numbers_from
-          pools_length = ap length to_pools ∙ sym w#
-
-          pub to_empty : (ts : List ℤ) → grid (put POOL 513 q (put CURRENT 1024 p (put NEXT 512 n (put FIRST 256 f w)))) ts ≡ with_times empty_tables ts
+          pub to_empty : (ts : List ℤ)
+              → grid (put POOL 513 q (put CURRENT 1024 p (put NEXT 512 n (put FIRST 256 f w)))) ts ≡ with_times empty_tables ts
           to_empty ts = ap (λ (l : List ℕ). grid l ts) to_pools ∙ emptied ts
 
--- ---- the call
+-- the pool is not refused
+pub refilled : (p p' : List ℕ) (r : Result ⊤ Corrupt) → length p ≡ 513 → Changes p refill r p' → IsOk r × (p' ≡ fresh)
+unfolding tells leaves
+refilled p p' (Ok x) h e = let w = rw (refill_some p h) at e in (refl, sym (ap (λ (t : Told × List ℕ). t.1) w))
+refilled p p' (Err x) h e =
+    let w = rw (refill_some p h) at e in absurd (omega (arith, ap (λ (t : Told × List ℕ). t.0.number) w))
 
--- a wrong length
-pub reset_sizes : (t : Tables) (ls : Lanes) → right_lengths t ≡ false → after t ls (reset_grid t) ≡ after_of 12 t ls
-unfolding reset_grid unless after
-reset_sizes t ls h = rw h
+-- ---- the call
 
 -- every table filled, every lane idle
 pub reset_done : (t : Tables) (ls : Lanes) (w : List ℕ) (ts₀ ts : List ℤ) {us : List Updater} {qs : List Query} →

@@ -7,10 +7,10 @@ use console::run::run_script;
 // A failure is told on standard error; the exit status is 0 all the same.
 fn main(rt: HostRuntime) {
     let run = run_script(&mut rt.stdin(), &mut rt.stdout());
-    if !run.reads {
+    if run.reads.is_err() {
         let _ = rt.eprintln("grid_script: reading failed");
     }
-    if !run.writes {
+    if run.writes.is_err() {
         let _ = rt.eprintln("grid_script: writing failed");
     }
 }

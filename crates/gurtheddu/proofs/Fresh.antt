@@ -30,6 +30,6 @@ module _ (t : Tables) (us ns : List ℕ) (ua ub : List Updater) (qa qb : List Qu
   reset_refused z = let w = wrong (right_lengths t) refl z in rw (w.0, w.1, w.2)
 
   pub reset_done : n ≡ 0 → (us' ns' : List ℕ) → us' ≡ replicate (length us) 0 → ns' ≡ replicate (length ns) 0
-      → after t (codedLanes us ns) (reset_deck t (codedLanes us ns)) ≡ after_of 0 t' (codedLanes us' ns')
+      → after t (codedLanes us ns) (reset_deck t (codedLanes us ns)) ≡ after_of n t' (codedLanes us' ns')
   unfolding reset_deck unless after
-  reset_done z us' ns' hu hq = let w = right (right_lengths t) refl z in rw (w.0, w.1, hu, hq)
+  reset_done z us' ns' hu hq = let w = right (right_lengths t) refl z in rw (w.0, w.1, z, hu, hq)

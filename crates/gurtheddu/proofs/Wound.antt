@@ -1,12 +1,13 @@
--- A rewind over variable tables and lanes, one law for each way in which it returns: of the lanes only whether all are idle is looked at.
+-- A rewind over variable tables and lanes: of the lanes only whether all are idle is looked at.
 use mathlib.Core.Path.{◌≡◌, sym, ap, ◌∙◌}
-use mathlib.Core.Bool.{Bool, true, false, ◌&&◌}
+use mathlib.Core.Bool.{Bool, true, false, not, ◌&&◌}
 use mathlib.Core.List.{List}
 use Prim.Native.Nat.{ℕ}
 use lib.Dec.{eqb}
 use lib.ListN.{replicate}
+use mir.Val.{bool_byte}
 use Rattle.tables.specs.Tables.{Tables}
-use Rattle.calls.specs.Call.{After, after, after_of, unless}
+use Rattle.calls.specs.Call.{After, after, unless}
 use Rattle.stage.specs.declared.Updater.{Updater}
 use Rattle.query.specs.declared.Query.{Query}
 use Rattle.stage.specs.Turn.{is_idle}
@@ -28,25 +29,19 @@ unfolding is_at_rest updaters_idle queries_idle all_below isIdleQuery idle_queri
 eight u true e = rw e
 eight u false e = rw e
 
-module _ (t : Tables) (us qs : List ℕ) where
-  pub rewind_nameless : stages_to us 14 ≡ false → after t tt (rewind_deck t us qs) ≡ after_of 12 t tt
-  unfolding rewind_deck unless after
-  rewind_nameless e = rw e
+-- the number of whether a lane is not idle is 0 if all are idle
+resting : (r b : Bool) (m : ℕ) → m ≡ bool_byte b → b ≡ not r → eqb m 0 ≡ r
+resting true b m e f = rw (e, f)
+resting false b m e f = rw (e, f)
 
-  module _ (e : stages_to us 14 ≡ true) where
-    pub rewind_unnamed : scans_to qs 3 ≡ false → after t tt (rewind_deck t us qs) ≡ after_of 12 t tt
-    unfolding rewind_deck unless after
-    rewind_unnamed f = rw (e, f)
-
-    module _ (f : scans_to qs 3 ≡ true) where
-      onward : rewind_deck t us qs ≡ rewind_tables t (updaters_in us) (queries_in qs)
-      unfolding rewind_deck unless
-      onward = rw (e, f)
-
-      -- what a rewind does with lanes that are idle exactly if all of these are
-      pub rewind_as : (m : ℕ) → eqb m 0 ≡ (stages_to us 0 && scans_to qs 0) → (u : Updater) → is_idle u.stage ≡ eqb m 0 → (ws : List Query) → ws ≡ idle_queries
-          → {a : After (Unit {0})} → after t tt (rewind_tables t (replicate 8 u) ws) ≡ a → after t tt (rewind_deck t us qs) ≡ a
-      rewind_as m h u i ws ew d =
-          let b : is_at_rest (updaters_in us) (queries_in qs) ≡ eqb m 0 = rest_told us qs e f ∙ sym h in
-          ap (after t tt) (onward ∙ by_rest t (updaters_in us) (replicate 8 u) (queries_in qs) idle_queries (b ∙ sym (eight u (eqb m 0) i)))
-          ∙ ap (λ (vs : List Query). after t tt (rewind_tables t (replicate 8 u) vs)) (sym ew) ∙ d
+-- what a rewind does with eight updates alike, which are idle exactly if all lanes are
+pub rewind_as : (t : Tables) (us qs : List ℕ) → true ≡ stages_to us 14 → true ≡ scans_to qs 3
+    → {b : Bool} → b ≡ not (stages_to us 0 && scans_to qs 0) → {m : ℕ} → m ≡ bool_byte b
+    → (u : Updater) → is_idle u.stage ≡ eqb m 0 → (ws : List Query) → ws ≡ idle_queries
+    → {a : After (Unit {0})} → after t tt (rewind_tables t (replicate 8 u) ws) ≡ a → after t tt (rewind_deck t us qs) ≡ a
+unfolding rewind_deck unless
+rewind_as t us qs e f {b} h {m} k u i ws w d =
+    let idle : is_idle u.stage ≡ (stages_to us 0 && scans_to qs 0) = i ∙ resting _ b m k h in
+    let same : is_at_rest (updaters_in us) (queries_in qs) ≡ is_at_rest (replicate 8 u) ws =
+    rest_told us qs (sym e) (sym f) ∙ sym (rw w (eight u (stages_to us 0 && scans_to qs 0) idle)) in
+    rw (← e, ← f) (ap (after t tt) (by_rest t (updaters_in us) (replicate 8 u) (queries_in qs) ws same) ∙ d)

@@ -1,6 +1,8 @@
 -- WHAT THE EXPORTS PROMISE, of the tables t as a call finds them and t' as it leaves them, of the lanes' numbers and of what is handed back: all are those
 -- of the definition, for every content of the tables, the lanes and the list.
-use Rattle.std.specs.Prelude.{◌≡◌, List, ℕ}
+use Rattle.std.specs.Prelude.{◌≡◌, Bool, true, false, ◌&&◌, Result, MatchResult, List, ℕ, ◌*◌, ◌<◌, ltb}
+use Rattle.base.specs.Numbers.{NO-SUCH-LANE, CORRUPT}
+use Rattle.base.specs.Outcome.{pick}
 use Rattle.base.specs.Lent.{Lent}
 use Rattle.layout.specs.declared.question.Question.{Question as Rectangle}
 use Rattle.tables.specs.Tables.{Tables}
@@ -8,6 +10,14 @@ use Rattle.calls.specs.Call.{after, after_of}
 use Rattle.calls.specs.Run.{ran_of}
 use Rattle.collect.specs.One.{filling_one_of}
 use Rattle.gurtheddu.specs.Coded.{start_update, run_update, start_sweep, run_sweep, read_from, clear_lane, reset_deck, lanes_of, rewind_deck}
+
+-- LANE l CANNOT BE TOLD, one of k lanes: there is no such lane, and m is 1, or its numbers name nothing, and m is 12.
+abbrev pub Lost : ℕ → ℕ → Bool → ℕ → Type 0
+Lost k l named m = ((ltb l k && named) ≡ false) × (m ≡ pick (ltb l k) CORRUPT NO-SUCH-LANE)
+
+-- A SEARCH for lane l, one of k lanes of n numbers each, gives where its numbers begin.
+abbrev pub FindsLane : ℕ → ℕ → ℕ → Bool → Result ℕ ℕ → Type 0
+FindsLane k n l named r = MatchResult r (λ at. (at ≡ n * l) × (l < k) × (named ≡ true)) (Lost k l named)
 
 -- A START of an update of object k, to stand at (x, y) with tag m, in lane l, gives n.
 abbrev pub StartsUpdate : Lent (List ℕ) → ℕ → ℕ → ℕ → ℕ → ℕ → ℕ → Tables → Tables → Type 0

@@ -1,13 +1,12 @@
 // The calls of range queries (document 01: sweep start, sweep steps in a row; document 02, request b: reading the list, clearing the lane).
 ghost use Rattle.tables.specs.Promise.{OnGrid};
 ghost use Rattle.base.specs.Lent.{seen, lent};
-ghost use Rattle.codes.specs.Queries.{rectangle_of};
-ghost use Rattle.gurtheddu.specs.Promise.{StartsSweep, RunsSweep, ReadsFrom, ClearsLane};
+ghost use Rattle.codes.specs.Queries.{QUERY-NUMBERS, rectangle_of, names_query};
+ghost use Rattle.gurtheddu.specs.Promise.{FindsLane, StartsSweep, RunsSweep, ReadsFrom, ClearsLane};
 
 use base::{CORRUPT, DONE, NO_SUCH_LANE, QUERY_COUNT};
 use codes::query_lane::{
-    LAST_KIND, QUERY_NUMBERS, SCAN_AT, kind_of, load_query, names_query, seen_query, store_begun,
-    store_idle, store_query,
+    LAST_KIND, QUERY_NUMBERS, SCAN_AT, kind_of, load_query, names_query, seen_query, store_query,
 };
 use collect::clear::clear_one;
 use collect::read::read_one;
@@ -15,7 +14,20 @@ use layout::question::Question as Rectangle;
 use queries::start::start_one;
 use query_run::run_query;
 use regions::region::Region;
-use regions::scan::first_cell;
+
+// Where the numbers of a lane begin. Refused with 1, or with 12, where they name nothing.
+fn find_lane(queries: &[u32; 52], lane: u32) -> Result<usize, u32>
+    ensures { FindsLane 4 QUERY-NUMBERS lane (names_query queries.now lane) result }
+{
+    if lane >= QUERY_COUNT {
+        return Err(NO_SUCH_LANE);
+    }
+    let at = QUERY_NUMBERS * lane as usize;
+    if !names_query(queries, at) {
+        return Err(CORRUPT);
+    }
+    Ok(at)
+}
 
 // Starts a query: its kind of question (0 touching, 1 within, 2 centre), the lower and the upper corner of its
 // rectangle, and its radius, which centre does not look at. Gives 0, or is refused with 1, 12 (the lane's numbers, or
@@ -34,32 +46,24 @@ pub fn gurtheddu_query_start(
 ) -> u32
     ensures { OnGrid (lent words) (seen times) (StartsSweep (lent queries) lane kind (rectangle_of x0 y0 x1 y1) radius result) }
 {
-    if lane >= QUERY_COUNT {
-        return NO_SUCH_LANE;
-    }
-    let at = QUERY_NUMBERS * (lane as usize);
-    if !names_query(queries, at) {
-        return CORRUPT;
-    }
+    let at = match find_lane(queries, lane) {
+        Ok(at) => at,
+        Err(number) => return number,
+    };
     if kind > LAST_KIND {
         return CORRUPT;
     }
-    let area = Rectangle { x0, y0, x1, y1 };
-    let asked = kind_of(kind);
     let question = Region {
-        kind: asked,
-        area,
+        kind: kind_of(kind),
+        area: Rectangle { x0, y0, x1, y1 },
         radius,
     };
-    let p = seen_query(queries[at + SCAN_AT]);
-    let one = start_one(p, lane, question, words, times);
-    if one.number != DONE {
-        return one.number;
+    let q = seen_query(queries[at + SCAN_AT]);
+    let one = start_one(q, lane, question, words, times);
+    if one.number == DONE {
+        store_query(queries, at, one.query);
     }
-    let visit = first_cell(question);
-    let q = one.query;
-    store_begun(queries, at, question, q.stamp, visit.cell);
-    DONE
+    one.number
 }
 
 // So many steps of a query, ended by the first number that is not 0. Gives 0 if all of them did, else the first other number: 20 or 22, or is refused
@@ -78,21 +82,16 @@ pub fn gurtheddu_query_run(
     if budget == 0 {
         return DONE;
     }
-    if lane >= QUERY_COUNT {
-        return NO_SUCH_LANE;
-    }
-    let at = QUERY_NUMBERS * (lane as usize);
-    if !names_query(queries, at) {
-        return CORRUPT;
-    }
+    let at = match find_lane(queries, lane) {
+        Ok(at) => at,
+        Err(number) => return number,
+    };
     let q = load_query(queries, at);
     let ran = run_query(q, lane, words, times, budget);
-    if ran.made == 0 {
-        return ran.number;
-    }
     *made = ran.made;
-    let v = ran.query;
-    store_query(queries, at, v);
+    if ran.made > 0 {
+        store_query(queries, at, ran.query);
+    }
     ran.number
 }
 
@@ -111,13 +110,10 @@ pub fn gurtheddu_read(
 {
     *steps = 0;
     *filled = 0;
-    if lane >= QUERY_COUNT {
-        return NO_SUCH_LANE;
-    }
-    let at = QUERY_NUMBERS * (lane as usize);
-    if !names_query(queries, at) {
-        return CORRUPT;
-    }
+    let at = match find_lane(queries, lane) {
+        Ok(at) => at,
+        Err(number) => return number,
+    };
     let q = load_query(queries, at);
     let reading = read_one(q, lane, out, words, times);
     *steps = reading.steps;
@@ -134,18 +130,14 @@ pub fn gurtheddu_clear(
 ) -> u32
     ensures { OnGrid (seen words) (seen times) (ClearsLane (lent queries) lane result) }
 {
-    if lane >= QUERY_COUNT {
-        return NO_SUCH_LANE;
-    }
-    let at = QUERY_NUMBERS * (lane as usize);
-    if !names_query(queries, at) {
-        return CORRUPT;
-    }
+    let at = match find_lane(queries, lane) {
+        Ok(at) => at,
+        Err(number) => return number,
+    };
     let q = load_query(queries, at);
     let cleared = clear_one(q, lane, words, times);
-    if cleared.number != 0 {
-        return cleared.number;
+    if cleared.number == DONE {
+        store_query(queries, at, cleared.query);
     }
-    store_idle(queries, at);
-    DONE
+    cleared.number
 }

@@ -10,7 +10,6 @@ use codes::update_lane::{LAST_STAGE, seen_updater};
 use grid::reset::reset;
 use queries::lanes::idle_queries;
 use rewind::whole::rewind;
-use tables::fill::fill_numbers;
 use updates::lanes::idle_updaters;
 
 // Makes the tables an empty grid and every lane idle. Gives 0.
@@ -22,15 +21,12 @@ pub fn gurtheddu_reset(
 ) -> u32
     ensures { OnGrid (lent words) (lent times) (ResetsDeck (lent updaters) (lent queries) result) }
 {
-    let us = idle_updaters();
-    let qs = idle_queries();
-    let fresh = reset(us, qs, words, times);
-    if fresh.number != DONE {
-        return fresh.number;
+    let fresh = reset(idle_updaters(), idle_queries(), words, times);
+    if fresh.number == DONE {
+        updaters.fill(0);
+        queries.fill(0);
     }
-    fill_numbers(updaters, 0);
-    fill_numbers(queries, 0);
-    DONE
+    fresh.number
 }
 
 // Winds every stamp and the clock back. Gives 0, or is refused with 12 (a lane's number is none) or 30 (not at rest). The lanes stay as they are.
@@ -42,13 +38,9 @@ pub fn gurtheddu_rewind(
 ) -> u32
     ensures { OnGrid (lent words) (lent times) (RewindsDeck (seen updaters) (seen queries) result) }
 {
-    if !stages_to(updaters, LAST_STAGE) {
+    if !stages_to(updaters, LAST_STAGE) || !scans_to(queries, LAST_SCAN) {
         return CORRUPT;
     }
-    if !scans_to(queries, LAST_SCAN) {
-        return CORRUPT;
-    }
-    let u = seen_updater(moving(updaters, queries));
-    let qs = idle_queries();
-    rewind([u; 8], qs, words, times)
+    let u = seen_updater(u32::from(moving(updaters, queries)));
+    rewind([u; 8], idle_queries(), words, times)
 }

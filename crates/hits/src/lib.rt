@@ -6,31 +6,19 @@ ghost use Rattle.std.specs.Prelude.{◌≡◌, ◌<◌, ◌≤◌, ◌+◌, leng
 ghost use Rattle.hits.specs.Hits.{hits_at, put_hit, look_from, Finds, note, Notes};
 ghost use Rattle.words.specs.Map.{HITS-SIZE};
 
+use base::{Corrupt, LIST_SIZE};
 use slots::tuple::Seen;
 use words::{HIT_TAGS, HIT_XS, HIT_YS};
 
-// Where an object stands in a list, if it does.
-#[derive(Clone, Copy)]
-pub enum Listed {
-    Missing,
-    At(usize),
-}
-
-// The size of a list after a tuple was noted.
-#[derive(Clone, Copy)]
-pub enum Noted {
-    Corrupt,
-    Size(u32),
-}
-
-// What a look-up hands back: where the object stands, and how many entries were looked at.
-#[derive(Clone, Copy)]
+// What a look-up hands back: where the object stands in the list, if it does, and how many entries were looked at.
+#[derive(Clone, Copy, Debug, PartialEq, Eq)]
 pub struct Lookup {
-    pub listed: Listed,
+    pub listed: Option<usize>,
     pub looked: usize,
 }
 
 // Looks an object up in size entries from one on. It ends at the first that matches.
+// Document 01 asks for a loop that yields the entry's index by break.
 pub fn find_hit(hits: &[u32], from: usize, size: usize, oid: u32) -> Lookup
     requires { (length hits.now ≡ 1024) × (from + size ≤ 1024) }
     ensures { Finds (look_from hits.now oid size from) size from result }
@@ -39,7 +27,7 @@ pub fn find_hit(hits: &[u32], from: usize, size: usize, oid: u32) -> Lookup
     let at = loop {
         if passed >= size {
             return Lookup {
-                listed: Listed::Missing,
+                listed: None,
                 looked: passed,
             };
         }
@@ -49,7 +37,7 @@ pub fn find_hit(hits: &[u32], from: usize, size: usize, oid: u32) -> Lookup
         passed += 1;
     };
     Lookup {
-        listed: Listed::At(at),
+        listed: Some(at),
         looked: passed + 1,
     }
 }
@@ -66,26 +54,27 @@ fn put_hit(list: &mut [u32], at: usize, t: Seen)
 }
 
 // Notes a tuple in a query's list: a current one is added or replaces its object's entry, a deleted one is added if its object is not listed.
-pub fn note_tuple(list: &mut [u32], lane: u32, size: u32, t: Seen) -> Noted
+// Hands back the size of the list afterwards.
+pub fn note_tuple(list: &mut [u32], lane: u32, size: u32, t: Seen) -> Result<u32, Corrupt>
     requires { (length list.old ≡ HITS-SIZE) × (lane < 4) }
     ensures { Notes (λ h. note h lane size t) result (hits_at list.old) (hits_at list.new) }
 {
-    if size > 256 {
-        return Noted::Corrupt;
+    let entries = size as usize;
+    if entries > LIST_SIZE {
+        return Err(Corrupt);
     }
-    let from = (256 * lane) as usize;
-    let found = find_hit(&list[0..HIT_XS], from, size as usize, t.oid);
-    let listed = found.listed;
-    let Listed::At(i) = listed else {
-        if size >= 256 {
-            return Noted::Corrupt;
+    let from = LIST_SIZE * lane as usize;
+    let found = find_hit(&list[0..HIT_XS], from, entries, t.oid);
+    let Some(i) = found.listed else {
+        if entries == LIST_SIZE {
+            return Err(Corrupt);
         }
-        put_hit(list, from + size as usize, t);
-        return Noted::Size(size + 1);
+        put_hit(list, from + entries, t);
+        return Ok(size + 1);
     };
     if t.deleted {
-        return Noted::Size(size);
+        return Ok(size);
     }
     put_hit(list, i, t);
-    Noted::Size(size)
+    Ok(size)
 }

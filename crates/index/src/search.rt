@@ -1,42 +1,45 @@
 // Search, entering an object, and counting.
 ghost use Rattle.std.specs.Prelude.{◌≡◌, ◌<◌, length};
+ghost use Rattle.base.specs.Answer.{outcome_of};
 ghost use Rattle.base.specs.Promise.{Changes};
 ghost use Rattle.words.specs.Part.{part};
-ghost use Rattle.index.specs.Search.{after, search, search_tells, search_says, known};
+ghost use Rattle.index.specs.Search.{search, found_at, known};
 ghost use Rattle.index.specs.Index.{index_at, new_entry, put_entry, enter};
 ghost use Rattle.words.specs.Map.{INDEX-SIZE};
 
 use crate::hash::start_of;
-use base::{Change, ENTRY_COUNT};
+use base::{Corrupt, ENTRY_COUNT};
 use layout::place::NOWHERE;
 use words::{INDEX_CURRENT, INDEX_LOCKS, INDEX_PREVIOUS};
 
 // Where a search ended: at the object's entry, or at an empty one. A search that wrapped ends at its start, whose entry is not empty.
-#[derive(Clone, Copy)]
+// Document 01 asks for the two answers Found and Empty.
+#[derive(Clone, Copy, Debug, PartialEq, Eq)]
 pub enum Search {
     Found(usize),
     Empty(usize),
 }
 
-fn next_entry(i: usize) -> usize
-    requires { i < 512 }
-    ensures { result ≡ after i }
-{
-    if i == 511 {
-        return 0;
+impl Search {
+    // The entry at which the object was found. An object that is missing is corrupt.
+    pub fn found(self) -> Result<usize, Corrupt>
+        ensures { outcome_of result ≡ found_at self }
+    {
+        match self {
+            Search::Found(i) => Ok(i),
+            Search::Empty(_) => Err(Corrupt),
+        }
     }
-    i + 1
 }
 
-// Goes from entry to entry until the object or an empty one.
+// Goes from entry to entry, from 511 to 0, until the object or an empty one.
 pub fn find_object(oids: &[u32], oid: u32) -> Search
     requires { length oids.now ≡ 512 }
-    ensures { search_says result ≡ search_tells oids.now oid }
+    ensures { result ≡ search oids.now oid }
 {
-    let s = start_of(oid) as usize;
-    let mut i = s;
-    let mut left: usize = ENTRY_COUNT;
-    while left > 0 {
+    let start = start_of(oid) as usize;
+    for passed in 0..ENTRY_COUNT {
+        let i = (start + passed) % ENTRY_COUNT;
         let o = oids[i];
         if o == 0 {
             return Search::Empty(i);
@@ -44,10 +47,8 @@ pub fn find_object(oids: &[u32], oid: u32) -> Search
         if o == oid {
             return Search::Found(i);
         }
-        i = next_entry(i);
-        left -= 1;
     }
-    Search::Empty(s)
+    Search::Empty(start)
 }
 
 // Writes a new entry: the object without places, its lock free.
@@ -62,22 +63,22 @@ fn put_new(index: &mut [u32], at: usize, oid: u32)
 }
 
 // Enters an object where the search for it ended, without places and with its lock free; leaves a known one as it is.
-pub fn enter_at(index: &mut [u32], s: Search, oid: u32) -> Change
+pub fn enter_at(index: &mut [u32], s: Search, oid: u32) -> Result<(), Corrupt>
     requires { (length index.old ≡ INDEX-SIZE) × (s ≡ search (part 0 512 index.old) oid) }
     ensures { Changes (index_at index.old) (λ d. enter d oid) result (index_at index.new) }
 {
     let Search::Empty(i) = s else {
-        return Change::Done;
+        return Ok(());
     };
     if index[i] != 0 {
-        return Change::Corrupt;
+        return Err(Corrupt);
     }
     put_new(index, i, oid);
-    Change::Done
+    Ok(())
 }
 
 // The same, after a search.
-pub fn enter_object(index: &mut [u32], oid: u32) -> Change
+pub fn enter_object(index: &mut [u32], oid: u32) -> Result<(), Corrupt>
     requires { length index.old ≡ INDEX-SIZE }
     ensures { Changes (index_at index.old) (λ d. enter d oid) result (index_at index.new) }
 {
@@ -89,13 +90,5 @@ pub fn enter_object(index: &mut [u32], oid: u32) -> Change
 pub fn count_known(oids: &[u32]) -> usize
     ensures { result ≡ known oids.now }
 {
-    let mut n: usize = 0;
-    let mut i = 0;
-    while i < oids.len() {
-        if oids[i] != 0 {
-            n += 1;
-        }
-        i += 1;
-    }
-    n
+    oids.iter().filter(|&&o| o != 0).count()
 }

@@ -1,12 +1,12 @@
 -- The cells between the corners' cells: `visited` holds of these, for accepted corners, and of no others.
 -- `visited` is taken apart into its tests, and what is left is arithmetic.
 use mathlib.Core.Path.{◌≡◌}
-use mathlib.Core.Bool.{true, and-eq-true_iff}
+use mathlib.Core.Bool.{true}
 use Prim.Native.Nat.{ℕ, ◌/◌, ◌%◌, ◌≤◌, ◌<◌}
 use native.Mathlib.Omega.{arith}
-use Rattle.layout.specs.Question.{corners_on, ordered, visited, Proper}
+use Rattle.layout.specs.Question.{visited, Proper}
 use Rattle.layout.specs.declared.question.Question.{Question}
-use Rattle.layout.proofs.Bools.{leb_iff}
+use Rattle.std.proofs.lemmas.Bool.Decides.{nat_tests}
 use Rattle.layout.proofs.Corners.{proper_iff, proper_facts}
 
 -- the cell's column and row lie between those of the corners' cells
@@ -21,13 +21,9 @@ module _ (q : Question) (c : ℕ) where
   -- a visited cell is such a cell, and the corners are accepted
   pub visited_covers : visited q c ≡ true → Proper q × Covers q c
   unfolding visited
-  visited_covers h =
-      let s = simp (and-eq-true_iff, leb_iff) at h in
-      ((proper_iff q).1 ((and-eq-true_iff (corners_on q) (ordered q)).1 s.0.0.0.0.0), omega arith)
+  visited_covers h = ((proper_iff q).1 (grind arith), grind (arith, nat_tests))
 
   -- where the corners are accepted, such a cell is visited
   pub covers_visited : Proper q → Covers q c → visited q c ≡ true
   unfolding visited
-  covers_visited h v =
-      let s = (and-eq-true_iff (corners_on q) (ordered q)).0 ((proper_iff q).0 h) in
-      simp (and-eq-true_iff, leb_iff) ((((((s.0, s.1), covers_below h v), v.0), v.1), v.2), v.3)
+  covers_visited h v = grind (arith, nat_tests, (proper_iff q).0 h, covers_below h v)

@@ -1,5 +1,3 @@
-pub mod Answers
-pub mod Bools
 pub mod Corners
 pub mod Covers
 pub mod Next

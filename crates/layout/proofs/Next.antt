@@ -2,7 +2,7 @@
 -- By cases on the tests that `next` makes, and arithmetic on columns and rows.
 use mathlib.Core.Path.{◌≡◌}
 use mathlib.Core.Logic.{◌≢◌}
-use mathlib.Core.Option.{none, some}
+use Rattle.std.specs.Prelude.{None, Some}
 use Prim.Native.Nat.{ℕ, ◌+◌, ◌/◌, ◌%◌, ◌≤◌, ◌<◌}
 use native.Mathlib.Omega.{arith}
 use borrow.Author.Tests.{eq-eqb, ne_eqb}
@@ -35,12 +35,12 @@ module _ (q : Question) (h : Proper q) where
 
   module _ (c : ℕ) (v : Covers q c) where
     -- after the last cell there is none
-    pub next_end : c ≡ last_cell q → next q c ≡ done none
+    pub next_end : c ≡ last_cell q → next q c ≡ done None
     unfolding next need pick
     next_end e = rw (covers_visited q c h v, eq-eqb c (last_cell q) e)
 
     -- after the last cell of a row: the first of the next row
-    next_row : c ≢ last_cell q → c % 16 ≡ q.x1 / 1024 → next q c ≡ done (some (record { cell = row_below q c }))
+    next_row : c ≢ last_cell q → c % 16 ≡ q.x1 / 1024 → next q c ≡ done (Some (record { cell = row_below q c }))
     unfolding next need pick
     next_row n e = rw (covers_visited q c h v, ne_eqb c (last_cell q) n, eq-eqb (c % 16) (q.x1 / 1024) e)
 
@@ -56,7 +56,7 @@ module _ (q : Question) (h : Proper q) where
         }
 
     -- after another cell: the next of its row
-    next_column : c ≢ last_cell q → c % 16 ≢ q.x1 / 1024 → next q c ≡ done (some (record { cell = c + 1 }))
+    next_column : c ≢ last_cell q → c % 16 ≢ q.x1 / 1024 → next q c ≡ done (Some (record { cell = c + 1 }))
     unfolding next need pick
     next_column n e = rw (covers_visited q c h v, ne_eqb c (last_cell q) n, ne_eqb (c % 16) (q.x1 / 1024) e)
 
@@ -71,7 +71,7 @@ module _ (q : Question) (h : Proper q) where
         }
 
     -- a cell that is not the last is followed by the one that `next` gives
-    pub next_follows : c ≢ last_cell q → (d : ℕ) × (next q c ≡ done (some (record { cell = d }))) × Follows q c d
+    pub next_follows : c ≢ last_cell q → (d : ℕ) × (next q c ≡ done (Some (record { cell = d }))) × Follows q c d
     next_follows n = at_or (c % 16) (q.x1 / 1024)
         (λ e. (row_below q c, next_row n e, row_follows n e))
         (λ e. (c + 1, next_column n e, column_follows e))

@@ -3,10 +3,10 @@
 -- The argument: a cell stands in the walk just where its column and row lie between those of the corners' cells (Covers).
 -- The cells that `next` gives are such cells, and the list ascends (Rows, Order), so the cell after c is the least one above c: that is what `next` gives.
 use mathlib.Core.Path.{◌≡◌, refl, ◌∙◌}
-use mathlib.Core.Bool.{true, false, and-eq-true_iff}
+use mathlib.Core.Bool.{true, false}
 use mathlib.Core.List.Memᴰ
 use mathlib.Core.List.{List, [], ◌∷◌, ◌++◌}
-use mathlib.Core.Option.{none, some}
+use Rattle.std.specs.Prelude.{None, Some}
 use Prim.Native.Nat.{ℕ, ◌+◌, ◌-◌, ◌*◌, ◌/◌, ◌%◌, ◌<◌, max}
 use native.Mathlib.Omega.{arith}
 use lib.ListN.{length}
@@ -17,7 +17,8 @@ use Rattle.layout.specs.Place.{on_grid, cell_of}
 use Rattle.layout.specs.Question.{inside, columns, rows, walk, cells_touched, first_visit, last_cell, visited, row_below, next, Proper, Touched}
 use Rattle.layout.specs.declared.question.Question.{Question}
 use Rattle.layout.specs.declared.question.Visit.{Visit}
-use Rattle.layout.proofs.Bools.{leb_iff, need_done_iff}
+use Rattle.std.proofs.lemmas.Bool.Decides.{nat_tests}
+use Rattle.base.proofs.Outcome.{need_done}
 use Rattle.layout.proofs.Places.{on_grid_from}
 use Rattle.layout.proofs.Covers.{Covers, covers_below, covers_visited, visited_covers}
 use Rattle.layout.proofs.Next.{Follows, covers_last, last_covers, next_end, next_follows}
@@ -50,17 +51,16 @@ module _ (q : Question) where
   unfolding inside
   inside_on_grid h x y e =
       let f = proper_facts q h in
-      let s = simp (and-eq-true_iff, leb_iff) at e in
-      on_grid_from x y (omega arith)
+      on_grid_from x y (grind (arith, nat_tests))
 
   -- a cell that the rectangle touches stands in the walk
   pub touched_walk : Proper q → (c : ℕ) → Touched q c → In c (walk q)
   unfolding inside cell_of
   touched_walk h c t =
       let f = proper_facts q h in
-      let s = simp (and-eq-true_iff, leb_iff) at t.2 in
+      let i = t.2 in
       let e = t.3 in
-      covers_walk h c (omega arith)
+      covers_walk h c (grind (arith, nat_tests))
 
   -- each cell of the walk is touched: by its own lower corner, or where that is left of the rectangle or below it, by the point at the edge
   pub walk_touched : Proper q → (c : ℕ) → In c (walk q) → Touched q c
@@ -70,7 +70,7 @@ module _ (q : Question) where
       let v = walk_covers h c i in (
         max q.x0 (c % 16 * 1024),
         max q.y0 (c / 16 * 1024),
-        simp (and-eq-true_iff, leb_iff) (omega arith),
+        grind (arith, nat_tests),
         omega arith,
       )
 
@@ -124,11 +124,11 @@ module _ (q : Question) where
   next_corrupt c e = rw e
 
   -- from a visited one it is none after the last, else another
-  pub next_ends : (c : ℕ) → visited q c ≡ true → eqb c (last_cell q) ≡ true → next q c ≡ done none
+  pub next_ends : (c : ℕ) → visited q c ≡ true → eqb c (last_cell q) ≡ true → next q c ≡ done None
   unfolding next need pick
   next_ends c e l = rw (e, l)
 
-  pub next_goes : (c : ℕ) → visited q c ≡ true → eqb c (last_cell q) ≡ false → (v : Visit) × (next q c ≡ done (some v))
+  pub next_goes : (c : ℕ) → visited q c ≡ true → eqb c (last_cell q) ≡ false → (v : Visit) × (next q c ≡ done (Some v))
   unfolding next need pick
   next_goes c e l = by_test (eqb (c % 16) (q.x1 / 1024)) (λ r. (record { cell = row_below q c }, rw (e, l, r))) (λ r. (record { cell = c + 1 }, rw (e, l, r)))
 
@@ -147,7 +147,7 @@ module _ (q : Question) where
       }
 
   -- the cell after c in the walk is the one that `next` gives
-  pub next_after : Proper q → (pre : List ℕ) (c d : ℕ) (rest : List ℕ) → walk q ≡ pre ++ c ∷ d ∷ rest → next q c ≡ done (some (record { cell = d }))
+  pub next_after : Proper q → (pre : List ℕ) (c d : ℕ) (rest : List ℕ) → walk q ≡ pre ++ c ∷ d ∷ rest → next q c ≡ done (Some (record { cell = d }))
   next_after h pre c d rest e =
       let v = walk_covers h c (rw e (in_middle pre c (d ∷ rest))) in
       let w = walk_follows h pre c d rest e in
@@ -156,17 +156,17 @@ module _ (q : Question) where
       n.1 ∙ rw same
 
   -- after the last cell of the walk `next` gives none
-  pub next_last : Proper q → (pre : List ℕ) (c : ℕ) → walk q ≡ pre ++ c ∷ [] → next q c ≡ done none
+  pub next_last : Proper q → (pre : List ℕ) (c : ℕ) → walk q ≡ pre ++ c ∷ [] → next q c ≡ done None
   next_last h pre c e =
       let v = walk_covers h c (rw e (in_middle pre c [])) in
       let top = last_largest pre c (rw e at (walk_ascending h)) (last_cell q) (rw e at (covers_walk h (last_cell q) (last_covers q h))) in
       next_end q h c v (omega (arith, covers_last q h c v))
 
   -- the next cell is visited
-  pub next_visited : (c : ℕ) (v : Visit) → next q c ≡ done (some v) → visited q v.cell ≡ true
+  pub next_visited : (c : ℕ) (v : Visit) → next q c ≡ done (Some v) → visited q v.cell ≡ true
   unfolding next
   next_visited c v e =
-      let w = visited_covers q c ((need_done_iff _ _ _).0 e).0 in
+      let w = visited_covers q c (need_done _ _ e).0 in
       at_or c (last_cell q)
       (λ l. clash (cc (next_end q w.0 c w.1 l)))
       (λ l.

@@ -1,23 +1,22 @@
 -- The question of a range query, and the walk of cells for it (document 01: the walk of a sweep).
 -- Crates above use the laws of proofs/Walk.antt and do not unfold `inside`, `visited`, `next` and `walk`.
 use Rattle.std.specs.Prelude.{◌≡◌, Bool, true, ◌&&◌, List, [], ◌++◌, ℕ, zero, suc, ◌+◌, ◌-◌, ◌*◌, ◌/◌, ◌%◌, eqb, ltb, leb}
-use Rattle.std.proofs.Math.Option.{Option, none, some}
-use Rattle.base.specs.Numbers.{DONE, OFF-GRID, CROSSED-CORNERS, CORRUPT}
+use Rattle.std.specs.Prelude.{Option, None, Some}
+use Rattle.std.specs.Prelude.{Result, Ok, Err, ⊤}
+use Rattle.base.specs.Numbers.{DONE, OFF-GRID, CROSSED-CORNERS}
 use Rattle.base.specs.Lists.{numbers_from}
-use Rattle.base.specs.Outcome.{Told, says, Outcome, done, need, pick, one}
+use Rattle.base.specs.Outcome.{Told, says, Outcome, done, need, pick}
 use Rattle.layout.specs.Place.{on_grid, cell_of}
 use Rattle.layout.specs.declared.question.Question.{Question}
 use Rattle.layout.specs.declared.question.Visit.{Visit}
-use Rattle.layout.specs.declared.question.Corners.{Corners}
-use Rattle.layout.specs.declared.question.Corners.TheVariants.{Accepted, OffGrid, Crossed}
-use Rattle.layout.specs.declared.question.NextCell.{NextCell}
-use Rattle.layout.specs.declared.question.NextCell.TheVariants.{Corrupt, End, Cell}
+use Rattle.layout.specs.declared.question.BadCorners.{BadCorners}
+use Rattle.layout.specs.declared.question.BadCorners.TheVariants.{OffGrid, Crossed}
 
 -- off the deck: 5; crossed corners: 6; else 0
-abbrev pub corners_says : Corners → Told
-corners_says Accepted = says DONE []
-corners_says OffGrid = says OFF-GRID []
-corners_says Crossed = says CROSSED-CORNERS []
+abbrev pub corners_says : Result ⊤ BadCorners → Told
+corners_says (Ok a) = says DONE []
+corners_says (Err OffGrid) = says OFF-GRID []
+corners_says (Err Crossed) = says CROSSED-CORNERS []
 
 -- both corners on the grid
 unfoldable pub corners_on : Question → Bool
@@ -84,15 +83,5 @@ row_below q c = (c / 16 + 1) * 16 + q.x0 / 1024
 unfoldable pub next : Question → ℕ → Outcome (Option Visit)
 next q c =
     need (visited q c)
-    (pick (eqb c (last_cell q)) (done none)
-    (pick (eqb (c % 16) (q.x1 / 1024)) (done (some (record { cell = row_below q c }))) (done (some (record { cell = c + 1 })))))
-
-abbrev pub visit_values : Option Visit → List ℕ
-visit_values none = []
-visit_values (some v) = one v.cell
-
--- broken tables: 12; no further cell: 0 and no value; else 0 and the cell
-abbrev pub next_cell_says : NextCell → Told
-next_cell_says Corrupt = says CORRUPT []
-next_cell_says End = says DONE []
-next_cell_says (Cell v) = says DONE (one v.cell)
+    (pick (eqb c (last_cell q)) (done None)
+    (pick (eqb (c % 16) (q.x1 / 1024)) (done (Some (record { cell = row_below q c }))) (done (Some (record { cell = c + 1 })))))

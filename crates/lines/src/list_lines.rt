@@ -6,6 +6,7 @@ ghost use Rattle.tables.specs.Promise.{OnGrid};
 use collect::clear::clear;
 use collect::read::read_into;
 use collect::whole::{Collected, collect};
+use queries::lanes::Swept;
 use query::Query;
 use script::line::{ListLine, Wish};
 
@@ -19,9 +20,8 @@ pub fn list_line(
 ) -> Collected
     ensures { OnGrid (seen words) (seen times) (AnswersList line queries (lent out) result) }
 {
-    let wish = line.wish;
     let lane = line.lane;
-    match wish {
+    match line.wish {
         Wish::Both => collect(queries, lane, out, words, times),
         Wish::Read => {
             let reading = read_into(queries, lane, out, words, times);
@@ -33,10 +33,9 @@ pub fn list_line(
             }
         }
         Wish::Clear => {
-            let swept = clear(queries, lane, words, times);
-            let queries = swept.queries;
+            let Swept { number, queries } = clear(queries, lane, words, times);
             Collected {
-                number: swept.number,
+                number,
                 steps: 0,
                 filled: 0,
                 queries,

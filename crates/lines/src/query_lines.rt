@@ -14,33 +14,22 @@ use regions::region::{Kind, Region};
 use script::line::{Asks, QueryLine, QueryStart};
 
 // The question that a line asks: Q has no radius, T and W have theirs.
+#[tactic(auto, unfolding(crate::specs::Line::asked_of))]
 fn asked_of(q: QueryStart) -> Region
     ensures { result ≡ asked_of q.asks q.x0 q.y0 q.x1 q.y1 }
 {
-    let asks = q.asks;
+    let (kind, radius) = match q.asks {
+        Asks::Centre => (Kind::Centre, 0),
+        Asks::Touching(radius) => (Kind::Touching, radius),
+        Asks::Within(radius) => (Kind::Within, radius),
+    };
     let area = Rectangle {
         x0: q.x0,
         y0: q.y0,
         x1: q.x1,
         y1: q.y1,
     };
-    match asks {
-        Asks::Centre => Region {
-            kind: Kind::Centre,
-            area,
-            radius: 0,
-        },
-        Asks::Touching(radius) => Region {
-            kind: Kind::Touching,
-            area,
-            radius,
-        },
-        Asks::Within(radius) => Region {
-            kind: Kind::Within,
-            area,
-            radius,
-        },
-    }
+    Region { kind, area, radius }
 }
 
 // Starts a query, or does a step of one.
@@ -48,10 +37,7 @@ pub fn query_line(line: QueryLine, queries: [Query; 4], words: &mut [u32], times
     ensures { OnGrid (lent words) (seen times) (AnswersQuery line queries result) }
 {
     match line {
-        QueryLine::Start(q) => {
-            let question = asked_of(q);
-            query_start(queries, q.lane, question, words, times)
-        }
+        QueryLine::Start(q) => { query_start(queries, q.lane, asked_of(q), words, times) }
         QueryLine::Step(lane) => query_step(queries, lane, words, times),
     }
 }

@@ -8,6 +8,7 @@ use crate::list_lines::list_line;
 use crate::query_lines::query_line;
 use crate::update_lines::update_line;
 use base::UNREADABLE;
+use collect::whole::Collected;
 use query::Query;
 use script::line::Line;
 use script::parse::parse;
@@ -37,6 +38,7 @@ fn plain_step(number: u32, updaters: [Updater; 8], queries: [Query; 4]) -> LineS
 }
 
 // Does what one line says, without its line feed. An unreadable one gives 13 and changes nothing; a reading and a collection hand their list back in `out[..filled]`.
+#[tactic(auto, unfolding(crate::specs::Line::line_step, crate::specs::Line::command_step, crate::specs::Line::call_of, grid::specs::Run::call, collect::specs::Filling::collect_into, collect::specs::Filling::read_into))]
 pub fn line_step(
     line: &[u8],
     out: &mut [u32],
@@ -47,26 +49,27 @@ pub fn line_step(
 ) -> LineStep
     ensures { OnGrid (lent words) (lent times) (Answers (seen line) (lent out) updaters queries result) }
 {
-    let command = parse(line);
-    match command {
-        Line::Unreadable => plain_step(UNREADABLE, updaters, queries),
-        Line::Update(u) => {
+    match parse(line) {
+        None => plain_step(UNREADABLE, updaters, queries),
+        Some(Line::Update(u)) => {
             let stepped = update_line(u, updaters, words, times);
-            let updaters = stepped.updaters;
-            plain_step(stepped.number, updaters, queries)
+            plain_step(stepped.number, stepped.updaters, queries)
         }
-        Line::Query(q) => {
+        Some(Line::Query(q)) => {
             let swept = query_line(q, queries, words, times);
-            let queries = swept.queries;
-            plain_step(swept.number, updaters, queries)
+            plain_step(swept.number, updaters, swept.queries)
         }
-        Line::OnList(l) => {
-            let collected = list_line(l, queries, out, words, times);
-            let queries = collected.queries;
+        Some(Line::OnList(l)) => {
+            let Collected {
+                number,
+                steps,
+                filled,
+                queries,
+            } = list_line(l, queries, out, words, times);
             LineStep {
-                number: collected.number,
-                steps: collected.steps,
-                filled: collected.filled,
+                number,
+                steps,
+                filled,
                 updaters,
                 queries,
             }

@@ -5,8 +5,8 @@ use mathlib.Core.List.{List}
 use Prim.Native.Nat.{ℕ, ◌<◌, ◌≤◌}
 use lib.ListN.{length, set}
 use borrow.Author.Tests.{ltb-true, eqb-true, lt-ltb, le-leb, ne_eqb}
-use Rattle.base.specs.Outcome.{done, blocked, need, await, and_then}
-use Rattle.base.proofs.Outcome.{need_done, await_done, then_done, then_true, need_true, done_one}
+use Rattle.base.specs.Outcome.{done, blocked, need, awaits, and_then}
+use Rattle.base.proofs.Outcome.{need_done, awaits_done, then_done, then_true, need_true, done_one}
 use Rattle.base.specs.Table.{at}
 use Rattle.locks.specs.Lock.{look, take_lock, release}
 
@@ -17,17 +17,17 @@ module _ (l : List ℕ) (i : ℕ) where
   look_done l' e =
       let n₁ = need_done _ _ e in
       let n₂ = need_done _ _ n₁.1 in
-      let n₃ = await_done _ _ n₂.1 in
+      let n₃ = awaits_done _ _ n₂.1 in
       (ltb-true _ _ n₁.0, eqb-true _ _ n₃.0, sym (done_one n₃.1))
 
   -- a free lock is found free
   pub look_free : i < length l → at l i ≡ 0 → look l i ≡ done l
-  unfolding look need await
+  unfolding look need awaits
   look_free h e = rw (lt-ltb i (length l) h, e)
 
   -- a lock that a lane holds blocks
   pub look_held : i < length l → at l i ≤ 8 → at l i ≢ 0 → look l i ≡ blocked
-  unfolding look need await
+  unfolding look need awaits
   look_held h k n = rw (lt-ltb i (length l) h, le-leb (at l i) 8 k, ne_eqb (at l i) 0 n)
 
   module _ (o : ℕ) where

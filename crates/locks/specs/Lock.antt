@@ -1,11 +1,11 @@
 -- A table of locks: 0 is free, 1 to 8 is held by lane 0 to 7, anything else is out of range.
 use Rattle.std.specs.Prelude.{List, ℕ, eqb, ltb, leb, length, set}
-use Rattle.base.specs.Outcome.{Outcome, done, need, await, and_then}
+use Rattle.base.specs.Outcome.{Outcome, done, need, awaits, and_then}
 use Rattle.base.specs.Table.{at}
 
 -- Is the lock free? Blocked if it is held. The table is handed on unchanged.
 unfoldable pub look : List ℕ → ℕ → Outcome (List ℕ)
-look locks i = need (ltb i (length locks)) (need (leb (at locks i) 8) (await (eqb (at locks i) 0) (done locks)))
+look locks i = need (ltb i (length locks)) (need (leb (at locks i) 8) (awaits (eqb (at locks i) 0) (done locks)))
 
 -- Take it for an owner.
 unfoldable pub take_lock : List ℕ → ℕ → ℕ → Outcome (List ℕ)

@@ -3,7 +3,7 @@
 -- By the definition of each stage: past its tests every way out puts the lane at a stage of its own.
 use mathlib.Core.Path.{◌≡◌, refl}
 use mathlib.Core.Logic.{◌≢◌, ◌⊎◌, inl, inr}
-use mathlib.Core.Option.{Option, none, some}
+use Rattle.std.specs.Prelude.{Option, None, Some}
 use mathlib.Core.List.{List}
 use Prim.Native.Nat.{ℕ}
 use Rattle.base.specs.Lists.{In, here, there}
@@ -26,8 +26,8 @@ Leads l ns r = (r.1 ≡ 20) ⊎ In (row (r.0.lanes l).stage).number ns
 ends_fork : {P : Out → Type 0} (o : Option Place) (f : Place → Option Out) (b : Option Out)
     → ((p : Place) → Ends P (Unit {0}) (f p)) → Ends P (Unit {0}) b → Ends P (Unit {0}) (fork o f b)
 unfolding fork
-ends_fork none f b s n = n
-ends_fork (some p) f b s n = s p
+ends_fork None f b s n = n
+ends_fork (Some p) f b s n = s p
 
 module _ (O : StoreOps) (l : ℕ) (a : Updater) (d : St) where
   -- the lane put at a stage is at it

@@ -2,7 +2,7 @@
 -- From the test, what it says; a new stage is a row of the table and a line here.
 use mathlib.Core.Path.{◌≡◌, refl}
 use mathlib.Core.Bool.{Bool, true, false, not, ◌&&◌, ◌||◌}
-use mathlib.Core.Option.{some}
+use Rattle.std.specs.Prelude.{Some}
 use Prim.Native.Nat.{ℕ, ◌≤◌}
 use lib.Dec.{T, leb, leb→le}
 use Rattle.base.proofs.Table.{clash}
@@ -51,7 +51,7 @@ row_fits ReleaseObject = tt
 -- the same, said of a row
 pub record Fits (r : Row) : Type 0 where
   pub moves : T (given r.moved) → T r.own
-  pub uses : (f b : ℕ) → bucket_by f r.bucket ≡ some b → T r.own
+  pub uses : (f b : ℕ) → bucket_by f r.bucket ≡ Some b → T r.own
   pub holds : T r.fills → T (holds_cell r.cell)
   pub first : T r.fills → r.bucket ≡ first_bucket
   pub few : r.draws ≤ 2
@@ -69,7 +69,7 @@ is_first no_bucket t = absurd t
 is_first first_bucket t = refl
 is_first (bucket_at b) t = absurd t
 
-is_used : (u : BucketUsed) (f b : ℕ) → bucket_by f u ≡ some b → T (uses_bucket u)
+is_used : (u : BucketUsed) (f b : ℕ) → bucket_by f u ≡ Some b → T (uses_bucket u)
 is_used no_bucket f b e = clash (cc)
 is_used first_bucket f b e = tt
 is_used (bucket_at c) f b e = tt

@@ -1,6 +1,6 @@
 -- The fourteen stages of an update over tables that are functions; the index is an abstract map keyed by oid, the pool abstract (StoreOps).
 use Rattle.std.specs.Prelude.{Bool, true, not, ◌&&◌, List, ℕ, zero, suc, ◌-◌, eqb, ltb, leb, ℤ, pos, negsuc, nat_abs}
-use Rattle.std.proofs.Math.Option.{Option, none, some}
+use Rattle.std.specs.Prelude.{Option, None, Some}
 use Rattle.std.specs.Int.Signed.{lt_z}
 use Rattle.base.specs.Table.{upd}
 use Rattle.base.specs.Outcome.{pick}
@@ -97,20 +97,20 @@ abbrev pub put_lane : ℕ → Updater → Stage → St → St
 put_lane l a s d = with_lanes d (upd d.lanes l (to a s))
 
 abbrev pub on : ℕ → Updater → Stage → St → Option Out
-on l a s d = some (put_lane l a s d, 0)
+on l a s d = Some (put_lane l a s d, 0)
 
 abbrev pub held_out : St → Option Out
-held_out d = some (d, 20)
+held_out d = Some (d, 20)
 
 -- go by a place or none
 unfoldable pub fork : {B : Type 0} → Option Place → (Place → B) → B → B
-fork none f b = b
-fork (some p) f b = f p
+fork None f b = b
+fork (Some p) f b = f p
 
 -- the place, if it is in the cell
 unfoldable pub place_in_cell : Option Place → ℕ → Option Place
-place_in_cell none c = none
-place_in_cell (some p) c = pick (eqb p.cell c) (some p) none
+place_in_cell None c = None
+place_in_cell (Some p) c = pick (eqb p.cell c) (Some p) None
 
 unfoldable pub stage1 : ℕ → Updater → St → Option Out
 stage1 l a d =
@@ -140,7 +140,7 @@ stage3 l a p d =
     (need (d.known m)
     (pick (eqb (d.lock m) 0)
     (on l a (CopyLast p m) (with_lock d (upd d.lock m (suc l))))
-    (some (put_lane l a TakeObject (with_cell_lock (with_lock d (upd d.lock a.oid 0)) (upd d.cell_lock p.cell 0)), 21))))))
+    (Some (put_lane l a TakeObject (with_cell_lock (with_lock d (upd d.lock a.oid 0)) (upd d.cell_lock p.cell 0)), 21))))))
 
 unfoldable pub stage4 : ℕ → Updater → Place → ℕ → St → Option Out
 stage4 l a p m d =
@@ -168,11 +168,11 @@ stage6 O l a p m b d =
     (held_out d)
 
 abbrev pub no_prev : Entry → Entry
-no_prev e = record { cur = e.cur; prev = none }
+no_prev e = record { cur = e.cur; prev = None }
 
 -- the moved object's entry, current or previous by the time's sign
 unfoldable pub corrected : Entry → ℤ → Place → Entry
-corrected e z p = pick (lt_z z (pos 0)) (record { cur = e.cur; prev = some p }) (record { cur = some p; prev = e.prev })
+corrected e z p = pick (lt_z z (pos 0)) (record { cur = e.cur; prev = Some p }) (record { cur = Some p; prev = e.prev })
 
 unfoldable pub stage7 : ℕ → Updater → Place → ℕ → St → Option Out
 stage7 l a p m d =
@@ -237,7 +237,7 @@ unfoldable pub stage12 : ℕ → Updater → Place → St → Option Out
 stage12 l a p d =
     let k = a.oid in
     need (d.known k)
-    (let d₁ = with_cell_lock (with_ent d (upd d.ent k (record { cur = some p; prev = (d.ent k).cur }))) (upd d.cell_lock p.cell 0) in
+    (let d₁ = with_cell_lock (with_ent d (upd d.ent k (record { cur = Some p; prev = (d.ent k).cur }))) (upd d.cell_lock p.cell 0) in
     fork (d.ent k).cur (λ q. on l a (DeleteOld q) d₁) (on l a ReleaseObject d₁))
 
 abbrev pub flagged : Tuple → ℕ → Tuple
@@ -250,10 +250,10 @@ stage13 l a q d =
 unfoldable pub stage14 : ℕ → Updater → St → Option Out
 stage14 l a d =
     need (d.known a.oid)
-    (some (put_lane l a Idle (with_lock d (upd d.lock a.oid 0)), 22))
+    (Some (put_lane l a Idle (with_lock d (upd d.lock a.oid 0)), 22))
 
 unfoldable pub do_stage : StoreOps → ℕ → Updater → St → Stage → Option Out
-do_stage O l a d Idle = some (d, 3)
+do_stage O l a d Idle = Some (d, 3)
 do_stage O l a d TakeObject = stage1 l a d
 do_stage O l a d (LockCell p) = stage2 l a p d
 do_stage O l a d (LookLast p) = stage3 l a p d
@@ -274,9 +274,9 @@ unfoldable pub enter_at : ℕ → ℕ → St → Option Out
 enter_at q c d =
     let f = d.first c in
     pick (eqb (d.cell_lock c) 0)
-    (pick (eqb f 512) (some (d, 0))
+    (pick (eqb f 512) (Some (d, 0))
     (need (ltb f 512) (need (ltb (d.readers f) 4) (need (leb (d.count f) 4)
-    (some (with_queries (with_readers d (upd d.readers f (suc (d.readers f)))) (upd d.queries q (record { cell = c; bucket = some f; left = d.count f })), 0))))))
+    (Some (with_queries (with_readers d (upd d.readers f (suc (d.readers f)))) (upd d.queries q (record { cell = c; bucket = Some f; left = d.count f })), 0))))))
     (held_out d)
 
 unfoldable pub leave_at : ℕ → ℕ → St → Option Out
@@ -285,27 +285,27 @@ leave_at q b d =
     let c = (d.queries q).cell in
     need (ltb 0 (d.readers b))
     (pick (eqb n 512)
-    (some (with_queries (with_readers d (upd d.readers b (d.readers b - 1))) (upd d.queries q (record { cell = c; bucket = none; left = 0 })), 0))
+    (Some (with_queries (with_readers d (upd d.readers b (d.readers b - 1))) (upd d.queries q (record { cell = c; bucket = None; left = 0 })), 0))
     (need (ltb n 512) (need (ltb (d.readers n) 4) (need (leb (d.count n) 4)
-    (some (with_queries (with_readers d (upd (upd d.readers n (suc (d.readers n))) b (d.readers b - 1))) (upd d.queries q (record { cell = c; bucket = some n; left = d.count n })), 0))))))
+    (Some (with_queries (with_readers d (upd (upd d.readers n (suc (d.readers n))) b (d.readers b - 1))) (upd d.queries q (record { cell = c; bucket = Some n; left = d.count n })), 0))))))
 
 unfoldable pub read_out_at : ℕ → ℕ → ℕ → St → Option Out
 read_out_at q b zero d = leave_at q b d
 read_out_at q b (suc r) d =
     need (ltb 0 (nat_abs (d.tup b r).time) && d.known (d.tup b r).oid)
-    (some (with_queries d (upd d.queries q (record { cell = (d.queries q).cell; bucket = some b; left = r })), 0))
+    (Some (with_queries d (upd d.queries q (record { cell = (d.queries q).cell; bucket = Some b; left = r })), 0))
 
 unfoldable pub query_step : ℕ → ℕ → Option ℕ → St → Option Out
-query_step q c none d = enter_at q c d
-query_step q c (some b) d = read_out_at q b (d.queries q).left d
+query_step q c None d = enter_at q c d
+query_step q c (Some b) d = read_out_at q b (d.queries q).left d
 
 unfoldable pub begin : ℕ → ℕ → ℕ → ℕ → ℕ → St → Option Out
 begin l k x y m d =
-    pick (not (ltb l 8)) (some (d, 1))
-    (pick (not (is_idle (d.lanes l).stage)) (some (d, 2))
-    (pick (eqb k 0) (some (d, 4))
-    (pick (not (ltb x 16384 && ltb y 16384)) (some (d, 5))
-    (pick (not (leb m 9)) (some (d, 31))
-    (pick (not (d.known k) && leb 256 d.size) (some (d, 7))
-    (pick (leb 2147483600 d.clock) (some (d, 8))
-    (some (with_lanes (with_size (with_known d (upd d.known k true)) (pick (d.known k) d.size (suc d.size))) (upd d.lanes l (record { oid = k; x = x; y = y; tag = m; stage = TakeObject })), 0))))))))
+    pick (not (ltb l 8)) (Some (d, 1))
+    (pick (not (is_idle (d.lanes l).stage)) (Some (d, 2))
+    (pick (eqb k 0) (Some (d, 4))
+    (pick (not (ltb x 16384 && ltb y 16384)) (Some (d, 5))
+    (pick (not (leb m 9)) (Some (d, 31))
+    (pick (not (d.known k) && leb 256 d.size) (Some (d, 7))
+    (pick (leb 2147483600 d.clock) (Some (d, 8))
+    (Some (with_lanes (with_size (with_known d (upd d.known k true)) (pick (d.known k) d.size (suc d.size))) (upd d.lanes l (record { oid = k; x = x; y = y; tag = m; stage = TakeObject })), 0))))))))

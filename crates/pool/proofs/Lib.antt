@@ -1,4 +1,3 @@
-pub mod Answers
 pub mod Laws
 mod Refill
 pub mod Refused

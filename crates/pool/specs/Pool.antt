@@ -1,23 +1,15 @@
 -- The bucket pool: a stack of bucket numbers in entries 0 to 511, its height in entry 512.
 -- Crates above use the laws of proofs/Laws.antt and do not unfold these definitions.
-use Rattle.std.specs.Prelude.{Bool, not, ◌||◌, List, [], ℕ, ◌+◌, ◌-◌, eqb, ltb, leb, length, set}
+use Rattle.std.specs.Prelude.{Bool, not, ◌||◌, List, ℕ, ◌+◌, ◌-◌, eqb, ltb, leb, length, set}
 use Rattle.std.proofs.Math.ListN as list
-use Rattle.base.specs.Numbers.{DONE, CORRUPT}
 use Rattle.base.specs.Lists.{In, numbers_from}
-use Rattle.base.specs.Outcome.{Told, says, Outcome, done, need, one}
+use Rattle.base.specs.Outcome.{Outcome, done, need}
 use Rattle.base.specs.Table.{at}
-use Rattle.pool.specs.declared.Taken.{Taken}
-use Rattle.pool.specs.declared.Taken.TheVariants.{Corrupt, Bucket}
 
 -- a bucket handed out, and the pool without it
 pub record Took : Type 0 where
   pub bucket : ℕ
   pub pool : List ℕ
-
--- broken tables, a dry store among them: 12; else 0 and the bucket
-abbrev pub taken_says : Taken → Told
-taken_says Corrupt = says CORRUPT []
-taken_says (Bucket b) = says DONE (one b)
 
 unfoldable pub height : List ℕ → ℕ
 height pool = at pool 512

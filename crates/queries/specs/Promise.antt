@@ -1,10 +1,10 @@
 -- WHAT THE CALLS OF QUERIES PROMISE, of the tables t as a call finds them and t' as it leaves them: the number, the tables and the lanes afterwards are
 -- those of the definition, for every content of the tables and every argument.
-use Rattle.std.specs.Prelude.{◌≡◌, List, ℕ}
+use Rattle.std.specs.Prelude.{◌≡◌, Result, List, ℕ}
+use Rattle.base.specs.declared.Stop.{Stop}
 use Rattle.regions.specs.declared.region.Region.{Region}
 use Rattle.tables.specs.Tables.{Tables}
 use Rattle.query.specs.Scan.{progress_says}
-use Rattle.query.specs.declared.Progress.{Progress}
 use Rattle.query.specs.declared.Query.{Query}
 use Rattle.calls.specs.Call.{after, after_of, next_lanes}
 use Rattle.queries.specs.Query.{query_start, query_step}
@@ -28,6 +28,6 @@ abbrev pub StepsOne : Query → ℕ → SweptOne → Tables → Tables → Type 
 StepsOne q l r t t' = after t q (step_one t l q) ≡ after_of r.number t' r.query
 
 -- the end of a step, from how it went
-abbrev pub EndsStep : Query → Progress → SweptOne → Type 0
+abbrev pub EndsStep : Query → Result Query Stop → SweptOne → Type 0
 EndsStep q progress r =
     (r.number ≡ (progress_says progress).number) × (r.query ≡ next_lanes q (λ (s : Query). s) (progress_says progress).next)

@@ -10,7 +10,7 @@ use base::{
 };
 use calls::no_lane;
 use query::{Query, Scan};
-use regions::region::{Checked, Region, check_region};
+use regions::region::{BadRegion, Region, check_region};
 use regions::scan::first_cell;
 use tables::lengths::right_words;
 use words::CLOCK;
@@ -46,25 +46,25 @@ pub fn start_one(
     }
     let checked = check_region(question);
     match checked {
-        Checked::OffGrid => {
+        Err(BadRegion::OffGrid) => {
             return SweptOne {
                 number: OFF_GRID,
                 query: q,
             };
         }
-        Checked::Crossed => {
+        Err(BadRegion::Crossed) => {
             return SweptOne {
                 number: CROSSED_CORNERS,
                 query: q,
             };
         }
-        Checked::Wide => {
+        Err(BadRegion::Wide) => {
             return SweptOne {
                 number: RADIUS_OVER,
                 query: q,
             };
         }
-        Checked::Accepted => {}
+        Ok(()) => {}
     }
     let clock = words[CLOCK];
     if clock >= CLOCK_SPENT {

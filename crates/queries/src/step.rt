@@ -5,32 +5,28 @@ ghost use Rattle.tables.specs.Promise.{OnGrid};
 
 use crate::lanes::{Swept, SweptOne, is_finished, is_idle, number_of};
 use crate::scanning::scan_step;
-use base::{BLOCKED, CORRUPT, LANE_IDLE, NO_SUCH_LANE, QUERY_COUNT, QUERY_FINISHED};
+use base::{BLOCKED, CORRUPT, LANE_IDLE, NO_SUCH_LANE, QUERY_COUNT, QUERY_FINISHED, Stop};
 use calls::no_lane;
-use query::{Progress, Query};
-use tables::lengths::right_words;
+use query::Query;
+use words::{TIMES, WORDS};
 
 // What a step gives, from how it ended.
-pub fn end_step(q: Query, progress: Progress) -> SweptOne
+pub fn end_step(q: Query, progress: Result<Query, Stop>) -> SweptOne
     ensures { EndsStep q progress result }
 {
     match progress {
-        Progress::Corrupt => SweptOne {
+        Err(Stop::Corrupt) => SweptOne {
             number: CORRUPT,
             query: q,
         },
-        Progress::Blocked => SweptOne {
+        Err(Stop::Blocked) => SweptOne {
             number: BLOCKED,
             query: q,
         },
-        Progress::To(next) => {
-            let s = next.stage;
-            let number = number_of(s);
-            SweptOne {
-                number,
-                query: next,
-            }
-        }
+        Ok(next) => SweptOne {
+            number: number_of(next.stage),
+            query: next,
+        },
     }
 }
 
@@ -38,12 +34,18 @@ pub fn end_step(q: Query, progress: Progress) -> SweptOne
 pub fn step_one(q: Query, lane: u32, words: &mut [u32], times: &[i32]) -> SweptOne
     ensures { OnGrid (lent words) (seen times) (StepsOne q lane result) }
 {
-    if !right_words(words.len(), times.len()) {
+    let Some(words) = words.as_mut_array::<WORDS>() else {
         return SweptOne {
             number: CORRUPT,
             query: q,
         };
-    }
+    };
+    let Some(times) = times.as_array::<TIMES>() else {
+        return SweptOne {
+            number: CORRUPT,
+            query: q,
+        };
+    };
     if lane >= QUERY_COUNT {
         return SweptOne {
             number: NO_SUCH_LANE,

@@ -2,8 +2,8 @@
 -- first step.
 use mathlib.Core.Path.{◌≡◌, refl, ap, sym, ◌∙◌}
 use mathlib.Core.Logic.{◌≢◌}
-use mathlib.Core.Bool.{Bool, true, false, not}
-use mathlib.Core.Option.{none, some}
+use mathlib.Core.Bool.{true, false, not}
+use Rattle.std.specs.Prelude.{None, Some, Result as Ended, Ok, Err}
 use mathlib.Core.List.{List}
 use Prim.Native.Nat.{ℕ, ◌+◌, ◌<◌, ◌≤◌}
 use native.Mathlib.Omega.{arith}
@@ -12,12 +12,13 @@ use lib.ListN.{length}
 use Rattle.base.specs.Outcome.{Outcome, corrupt, blocked, done, pick}
 use Rattle.base.specs.Step.{Said, said, Step, turn_tells, turned}
 use Rattle.base.proofs.Table.{clash}
+use Rattle.std.proofs.lemmas.Bool.{not-true}
 use Rattle.query.specs.Scan.{scan_number, progress_says}
 use Rattle.query.specs.declared.Scan.{Scan}
 use Rattle.query.specs.declared.Scan.TheVariants.{Idle, Enter, Read, Finished}
 use Rattle.query.specs.declared.Query.{Query}
-use Rattle.query.specs.declared.Progress.{Progress}
-use Rattle.query.specs.declared.Progress.TheVariants.{Corrupt, Blocked, To}
+use Rattle.base.specs.declared.Stop.{Stop}
+use Rattle.base.specs.declared.Stop.TheVariants.{Corrupt, Blocked}
 use Rattle.words.specs.Map.{WORDS, TIMES}
 use Rattle.tables.specs.Tables.{Tables, right_lengths}
 use Rattle.tables.specs.Grid.{grid}
@@ -41,27 +42,23 @@ number_unfinished (Enter c) h = refl
 number_unfinished (Read c s) h = refl
 number_unfinished Finished h = absurd (omega arith)
 
-busy_said : {B : Type 0} (o : Outcome (Step Query B)) (n : ℕ) (q : Query) → busy o ≡ true → turn_tells o ≡ said n (some q) → is_idle q.stage ≡ false
+busy_said : {B : Type 0} (o : Outcome (Step Query B)) (n : ℕ) (q : Query) → busy o ≡ true → turn_tells o ≡ said n (Some q) → is_idle q.stage ≡ false
 unfolding busy turn_tells
-busy_said corrupt n q b e = let z : none ≡ some q = ap (λ (s : Said Query). s.next) e in clash (cc)
-busy_said blocked n q b e = let z : none ≡ some q = ap (λ (s : Said Query). s.next) e in clash (cc)
+busy_said corrupt n q b e = let z : None ≡ Some q = ap (λ (s : Said Query). s.next) e in clash (cc)
+busy_said blocked n q b e = let z : None ≡ Some q = ap (λ (s : Said Query). s.next) e in clash (cc)
 busy_said (done m) n q b e =
-    let z : some m.next ≡ some q = ap (λ (s : Said Query). s.next) e in
+    let z : Some m.next ≡ Some q = ap (λ (s : Said Query). s.next) e in
     let y : m.next ≡ q = cc in
     let w : not (is_idle q.stage) ≡ true = rw y at b in
-    not_so (is_idle q.stage) w
-  where
-    not_so : (b : Bool) → not b ≡ true → b ≡ false
-    not_so true h = clash (cc)
-    not_so false h = refl
+    not-true (is_idle q.stage) w
 
-pub stays : (t t' : Tables) (l : ℕ) (q q' : Query) (r : Progress) (n : ℕ)
+pub stays : (t t' : Tables) (l : ℕ) (q q' : Query) (r : Ended Query Stop) (n : ℕ)
     → turned t (scan_on t l q q.stage) ≡ (progress_says r, t') → n ≡ (progress_says r).number → q' ≡ next_lanes q (λ (s : Query). s) (progress_says r).next
     → n ≡ 0 → (is_idle q'.stage ≡ false) × (is_finished q'.stage ≡ false)
-stays t t' l q q' Corrupt n e en eq z = absurd (omega arith)
-stays t t' l q q' Blocked n e en eq z = absurd (omega arith)
-stays t t' l q q' (To p) n e en eq z =
-    let tells : turn_tells (scan_on t l q q.stage) ≡ said (scan_number p.stage) (some p) = ap (λ (w : Said Query × Tables). w.0) e in
+stays t t' l q q' (Err Corrupt) n e en eq z = absurd (omega arith)
+stays t t' l q q' (Err Blocked) n e en eq z = absurd (omega arith)
+stays t t' l q q' (Ok p) n e en eq z =
+    let tells : turn_tells (scan_on t l q q.stage) ≡ said (scan_number p.stage) (Some p) = ap (λ (w : Said Query × Tables). w.0) e in
     rw eq (busy_said (scan_on t l q q.stage) (scan_number p.stage) p (scan_busy t l q q.stage) tells, number_unfinished p.stage (sym en ∙ z))
 
 -- ---- the loop
@@ -85,7 +82,7 @@ module _ (l : ℕ) (x : List ℤ) (w₀ : List ℕ) (n : ℕ) (q₀ : Query) whe
     loop_out h = running_out (steps l) n (grid w₀ x) q₀ (grid w x) q made R.run h
 
     -- a step
-    module _ (w# : length w₀ ≡ WORDS) (x# : length x ≡ TIMES) (l< : l < 4) (r : Progress) (w' : List ℕ) (k : ℕ) (q' : Query)
+    module _ (w# : length w₀ ≡ WORDS) (x# : length x ≡ TIMES) (l< : l < 4) (r : Ended Query Stop) (w' : List ℕ) (k : ℕ) (q' : Query)
         (e : turned (grid w x) (scan_on (grid w x) l q q.stage) ≡ (progress_says r, grid w' x))
         (en : k ≡ (progress_says r).number) (eq : q' ≡ next_lanes q (λ (s : Query). s) (progress_says r).next) (more : made < n) where
       stepped_on : after (grid w x) q (step_one (grid w x) l q) ≡ after_of k (grid w' x) q'

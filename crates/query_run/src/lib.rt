@@ -1,9 +1,8 @@
 // A run of a query: so many steps of one lane under one check, ended by the first number that is not 0. The lane is in locals.
 #![tactic(auto)]
 
-ghost use Rattle.std.specs.Prelude.{◌≡◌, false, ◌<◌, length};
+ghost use Rattle.std.specs.Prelude.{◌≡◌, false, ◌<◌};
 ghost use Rattle.base.specs.Lent.{seen, lent};
-ghost use Rattle.words.specs.Map.{TIMES, WORDS};
 ghost use Rattle.queries.specs.Query.{is_idle, is_finished};
 ghost use Rattle.tables.specs.Promise.{OnGrid};
 ghost use Rattle.query_run.specs.Promise.{Runs};
@@ -14,7 +13,7 @@ use queries::lanes::{is_finished, is_idle};
 use queries::scanning::scan_step;
 use queries::step::end_step;
 use query::Query;
-use tables::lengths::right_words;
+use words::{TIMES, WORDS};
 
 // The number that a run gives, how many steps it carried out, and the lane afterwards.
 #[derive(Clone, Copy)]
@@ -25,8 +24,8 @@ pub struct Ran {
 }
 
 // Steps a query that is neither idle nor finished, up to the first number that is not 0.
-fn run_on(q: Query, lane: u32, words: &mut [u32], times: &[i32], budget: u32) -> Ran
-    requires { (length words.old ≡ WORDS) × (length times.now ≡ TIMES) × (lane < 4) × (is_idle q.stage ≡ false) × (is_finished q.stage ≡ false) }
+fn run_on(q: Query, lane: u32, words: &mut [u32; WORDS], times: &[i32; TIMES], budget: u32) -> Ran
+    requires { (lane < 4) × (is_idle q.stage ≡ false) × (is_finished q.stage ≡ false) }
     ensures { OnGrid (lent words) (seen times) (Runs q lane budget result) }
 {
     let mut query = q;
@@ -66,13 +65,20 @@ pub fn run_query(q: Query, lane: u32, words: &mut [u32], times: &[i32], budget: 
             query: q,
         };
     }
-    if !right_words(words.len(), times.len()) {
+    let Some(words) = words.as_mut_array::<WORDS>() else {
         return Ran {
             number: CORRUPT,
             made: 0,
             query: q,
         };
-    }
+    };
+    let Some(times) = times.as_array::<TIMES>() else {
+        return Ran {
+            number: CORRUPT,
+            made: 0,
+            query: q,
+        };
+    };
     if lane >= QUERY_COUNT {
         return Ran {
             number: NO_SUCH_LANE,

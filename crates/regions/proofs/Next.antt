@@ -4,7 +4,7 @@
 use mathlib.Core.Path.{◌≡◌, ◌∙◌}
 use mathlib.Core.Bool.{true}
 use mathlib.Core.Logic.{◌≢◌}
-use mathlib.Core.Option.{none, some}
+use Rattle.std.specs.Prelude.{None, Some}
 use Prim.Native.Nat.{ℕ, ◌≤◌, ◌<◌}
 use native.Mathlib.Omega.{arith}
 use Rattle.base.specs.Outcome.{done}
@@ -35,11 +35,11 @@ module _ (g : Region) (c : ℕ) (e : visited g c ≡ true) where
   visited_last = of.covers_last (walked g) covers.0 c covers.1
 
   -- after the last there is none
-  pub next_end : c ≡ last_cell g → next g c ≡ done none
+  pub next_end : c ≡ last_cell g → next g c ≡ done None
   next_end l = next_in_lem g c (visited_parts g c e).0 ∙ of.next_end (walked g) covers.0 c covers.1 l
 
   -- after any other there is the least one above
-  pub next_follows : c ≢ last_cell g → (d : ℕ) × (next g c ≡ done (some (record { cell = d }))) × Follows g c d
+  pub next_follows : c ≢ last_cell g → (d : ℕ) × (next g c ≡ done (Some (record { cell = d }))) × Follows g c d
   next_follows l =
       let h = (visited_parts g c e).0 in
       let n = of.next_follows (walked g) covers.0 c covers.1 l in (

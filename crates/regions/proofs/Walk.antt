@@ -4,7 +4,7 @@
 use mathlib.Core.Path.{◌≡◌, refl, sym, ◌∙◌}
 use mathlib.Core.Bool.{true, false, and-eq-true_iff}
 use mathlib.Core.List.{List, [], ◌∷◌, ◌++◌}
-use mathlib.Core.Option.{none, some}
+use Rattle.std.specs.Prelude.{None, Some}
 use Prim.Native.Nat.{ℕ, ◌+◌, ◌-◌, ◌*◌, ◌/◌, ◌≤◌, ◌<◌, min}
 use native.Mathlib.Omega.{arith}
 use lib.Dec.{eqb}
@@ -16,7 +16,8 @@ use Rattle.layout.specs.Place.{on_grid, cell_of}
 use Rattle.layout.specs.Question as area
 use Rattle.layout.specs.declared.question.Question.{Question as Rectangle}
 use Rattle.layout.specs.declared.question.Visit.{Visit}
-use Rattle.layout.proofs.Bools.{leb_iff, need_done_iff}
+use Rattle.std.proofs.lemmas.Bool.Decides.{nat_tests}
+use Rattle.base.proofs.Outcome.{need_done}
 use Rattle.layout.specs.Question.{Proper}
 use Rattle.layout.proofs.Corners.{proper_facts, facts_proper}
 use Rattle.layout.proofs.Order.{In, Ascending, times}
@@ -64,13 +65,11 @@ module _ (a : Rectangle) (r x y : ℕ) (h : Proper a) (on : on_grid x y ≡ true
       let b = both_less dx dy r (leb-true (square dx + square dy) (square r) e) in
       let u = in_grown a.x0 a.x1 r x g.0 (outside_most a.x0 a.x1 r x f.0 b.0) in
       let v = in_grown a.y0 a.y1 r y g.1 (outside_most a.y0 a.y1 r y f.1 b.1) in
-      simp (and-eq-true_iff, leb_iff) (((u.0, u.1), v.0), v.1)
+      grind (arith, nat_tests)
 
   within_walked : within a r x y ≡ true → area.inside a x y ≡ true
   unfolding within area.inside
-  within_walked e =
-      let s = simp (and-eq-true_iff, leb_iff) at e in
-      simp (and-eq-true_iff, leb_iff) (((omega arith, omega arith), omega arith), omega arith)
+  within_walked e = grind (arith, nat_tests)
 
 by_kind : (k : Kind) (a : Rectangle) (r x y : ℕ) → Proper a → on_grid x y ≡ true → satisfies k a r x y ≡ true
     → area.inside (walked_by_kind k a r) x y ≡ true
@@ -135,11 +134,11 @@ module _ (g : Region) (h : proper g ≡ true) where
 
   -- the cell after c in the walk is the one that `next` gives; after the last it gives none
   pub next_after : (pre : List ℕ) (c d : ℕ) (rest : List ℕ) → walk g ≡ pre ++ c ∷ d ∷ rest
-      → next g c ≡ done (some (record { cell = d }))
+      → next g c ≡ done (Some (record { cell = d }))
   unfolding walk next need
   next_after pre c d rest e = rw h (of.next_after (walked g) (proper_walked g h) pre c d rest e)
 
-  pub next_last : (pre : List ℕ) (c : ℕ) → walk g ≡ pre ++ c ∷ [] → next g c ≡ done none
+  pub next_last : (pre : List ℕ) (c : ℕ) → walk g ≡ pre ++ c ∷ [] → next g c ≡ done None
   unfolding walk next need
   next_last pre c e = rw h (of.next_last (walked g) (proper_walked g h) pre c e)
 
@@ -181,17 +180,17 @@ module _ (g : Region) (c : ℕ) where
   pub visited_below : visited g c ≡ true → c < 256
   visited_below e = of.visited_below (walked g) c (visited_parts e).1
 
-  pub next_ends : visited g c ≡ true → eqb c (last_cell g) ≡ true → next g c ≡ done none
+  pub next_ends : visited g c ≡ true → eqb c (last_cell g) ≡ true → next g c ≡ done None
   unfolding next need
   next_ends e l = let v = visited_parts e in rw v.0 (of.next_ends (walked g) c v.1 l)
 
-  pub next_goes : visited g c ≡ true → eqb c (last_cell g) ≡ false → (v : Visit) × (next g c ≡ done (some v))
+  pub next_goes : visited g c ≡ true → eqb c (last_cell g) ≡ false → (v : Visit) × (next g c ≡ done (Some v))
   unfolding next need
   next_goes e l = let v = visited_parts e in rw v.0 (of.next_goes (walked g) c v.1 l)
 
   -- the next cell is visited
-  pub next_visited : (v : Visit) → next g c ≡ done (some v) → visited g v.cell ≡ true
+  pub next_visited : (v : Visit) → next g c ≡ done (Some v) → visited g v.cell ≡ true
   unfolding next visited
   next_visited v e =
-      let s = (need_done_iff (proper g) (area.next (walked g) c) (some v)).0 e in
+      let s = need_done (proper g) (area.next (walked g) c) e in
       (and-eq-true_iff (proper g) (area.visited (walked g) v.cell)).1 (s.0, of.next_visited (walked g) c v s.1)

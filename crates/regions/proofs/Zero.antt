@@ -1,26 +1,20 @@
 -- Touching with radius 0 is the centre question (document 02, m): the same points satisfy it, the same cells are walked.
 -- So is within with radius 0.
 -- With radius 0 a coordinate may lie 0 outside its interval, that is, in it; and the grown rectangle is the rectangle.
-use mathlib.Core.Path.{◌≡◌, refl, sym, ap}
-use mathlib.Core.Bool.{Bool, true, false, ◌&&◌, So, and-eq-true_iff}
+use mathlib.Core.Path.{◌≡◌, refl, ap}
+use mathlib.Core.Bool.{true, ◌&&◌, and-eq-true_iff}
 use Prim.Native.Nat.{ℕ, ◌+◌, ◌-◌, ◌≤◌, min}
 use native.Mathlib.Omega.{arith}
 use lib.Dec.{leb}
 use borrow.Author.Tests.{le-leb, leb-true}
 use Rattle.layout.specs.Question as area
 use Rattle.layout.specs.declared.question.Question.{Question as Rectangle}
-use Rattle.layout.proofs.Bools.{leb_iff}
+use Rattle.std.proofs.lemmas.Bool.Decides.{nat_tests, same_from_decides}
 use Rattle.layout.specs.Question.{Proper}
 use Rattle.layout.proofs.Corners.{proper_iff, proper_facts}
 use Rattle.regions.specs.Region.{radius_fits, proper, checks, square, apart, nearest, touching, within, satisfies, inside, walked_by_kind, walked, walk, cells_touched, first_visit, visited, next, touching_zero, centre}
-use Rattle.regions.proofs.Points.{outside_by, outside_most}
+use Rattle.regions.proofs.Points.{outside_by, outside_most, inside_sides}
 use Rattle.regions.proofs.Squares.{both_less}
-
--- two tests that say the same are equal
-pub same_test : (a b : Bool) → (So a → So b) → (So b → So a) → a ≡ b
-same_test true b f g = sym (f refl)
-same_test false true f g = g refl
-same_test false false f g = refl
 
 square-zero : (n : ℕ) → n ≡ 0 → square n ≡ 0
 square-zero n e = rw e
@@ -64,18 +58,20 @@ module _ (a : Rectangle) where
         let f = proper_facts a h in
         let dx = apart x (nearest a.x0 a.x1 x) in
         let dy = apart y (nearest a.y0 a.y1 y) in
-        same_test (leb (square dx + square dy) (square 0))
-        (leb a.x0 x && leb x a.x1 && leb a.y0 y && leb y a.y1)
-        (λ e.
-        let b = both_less dx dy 0 (leb-true (square dx + square dy) (square 0) e) in
-        let u = zero_in a.x0 a.x1 x (outside_most a.x0 a.x1 0 x f.0 b.0) in
-        let v = zero_in a.y0 a.y1 y (outside_most a.y0 a.y1 0 y f.1 b.1) in
-        simp (and-eq-true_iff, leb_iff) (((u.0, u.1), v.0), v.1))
-        (λ e.
-        let s = simp (and-eq-true_iff, leb_iff) at e in
-        let u = square-zero dx (in_zero a.x0 a.x1 x s.0.0.0 s.0.0.1) in
-        let v = square-zero dy (in_zero a.y0 a.y1 y s.0.1 s.1) in
-        le-leb (square dx + square dy) (square 0) (omega (arith, u, v)))
+        same_from_decides (leb (square dx + square dy) (square 0))
+        (leb a.x0 x && leb x a.x1 && leb a.y0 y && leb y a.y1) (
+          (λ e.
+              let b = both_less dx dy 0 (leb-true (square dx + square dy) (square 0) e) in
+              let u = zero_in a.x0 a.x1 x (outside_most a.x0 a.x1 0 x f.0 b.0) in
+              let v = zero_in a.y0 a.y1 y (outside_most a.y0 a.y1 0 y f.1 b.1) in
+              grind (arith, nat_tests)),
+          (λ e.
+              let s = inside_sides a x y e in
+              let u = square-zero dx (in_zero a.x0 a.x1 x s.0 s.1) in
+              let v = square-zero dy (in_zero a.y0 a.y1 y s.2 s.3) in
+              le-leb (square dx + square dy) (square 0) (omega (arith, u, v))),
+        )
+        (λ h. h, λ h. h)
 
     -- THE LAWS: the same points are inside,
     pub zero-inside : (x y : ℕ) → inside (touching_zero a) x y ≡ inside (centre a) x y

@@ -2,7 +2,7 @@
 -- Touching is T, Within W, Centre Q.
 -- Crates above use the laws of proofs/ and do not unfold `inside`, `visited`, `next` and `walk`.
 use Rattle.std.specs.Prelude.{Bool, true, ◌&&◌, List, [], ℕ, ◌+◌, ◌-◌, ◌*◌, min, max, leb}
-use Rattle.std.proofs.Math.Option.{Option}
+use Rattle.std.specs.Prelude.{Option, Result, Ok, Err, ⊤}
 use Rattle.base.specs.Outcome.{Told, says, Outcome, need, pick}
 use Rattle.layout.specs.Question as area
 use Rattle.layout.specs.declared.question.Question.{Question as Rectangle}
@@ -10,8 +10,10 @@ use Rattle.layout.specs.declared.question.Visit.{Visit}
 use Rattle.regions.specs.declared.region.Kind.{Kind}
 use Rattle.regions.specs.declared.region.Kind.TheVariants.{Touching, Within, Centre}
 use Rattle.regions.specs.declared.region.Region.{Region}
-use Rattle.regions.specs.declared.region.Checked.{Checked}
-use Rattle.regions.specs.declared.region.Checked.TheVariants.{Accepted, OffGrid, Crossed, Wide}
+use Rattle.layout.specs.declared.question.BadCorners.{BadCorners}
+use Rattle.layout.specs.declared.question.BadCorners.TheVariants.{OffGrid as CornersOff, Crossed as CornersCrossed}
+use Rattle.regions.specs.declared.region.BadRegion.{BadRegion}
+use Rattle.regions.specs.declared.region.BadRegion.TheVariants.{OffGrid, Crossed, Wide}
 
 -- ---- what is accepted
 
@@ -39,11 +41,16 @@ checks g =
     (says 6 []))
     (says 5 [])
 
-abbrev pub checked_says : Checked → Told
-checked_says Accepted = says 0 []
-checked_says OffGrid = says 5 []
-checked_says Crossed = says 6 []
-checked_says Wide = says 32 []
+abbrev pub checked_says : Result ⊤ BadRegion → Told
+checked_says (Ok a) = says 0 []
+checked_says (Err OffGrid) = says 5 []
+checked_says (Err Crossed) = says 6 []
+checked_says (Err Wide) = says 32 []
+
+-- a question whose corners are refused is refused for the same
+abbrev pub of_corners : BadCorners → BadRegion
+of_corners CornersOff = OffGrid
+of_corners CornersCrossed = Crossed
 
 -- ---- which points satisfy it
 

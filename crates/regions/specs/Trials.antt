@@ -1,10 +1,11 @@
 -- Small cases of the three questions, computed: a table of what the definitions give and what document 02 says,
 -- and one proof of all rows.
-use Rattle.std.specs.Prelude.{◌≡◌, refl, List, [], ◌∷◌, ◌++◌, ℕ}
+use Rattle.std.specs.Prelude.{◌≡◌, refl, List, [], ◌∷◌, ◌++◌, ℕ, Option, None, Some}
 use Rattle.base.specs.Lists.{numbers_from}
 use Rattle.base.specs.Outcome.{pick, one, need, tells}
 use Rattle.layout.specs.Place.{on_grid, cell_of}
 use Rattle.layout.specs.Question as area
+use Rattle.layout.specs.declared.question.Visit.{Visit}
 use Rattle.regions.specs.Region.{radius_fits, proper, checks, touching, within, satisfies, inside, walked_by_kind, walk, cells_touched, first_visit, visited, next}
 use Rattle.regions.specs.declared.region.Kind.{Kind}
 use Rattle.regions.specs.declared.region.Kind.TheVariants.{Touching, Within, Centre}
@@ -40,8 +41,13 @@ unfoldable pub at : Region → List (ℕ × ℕ) → List ℕ
 at g [] = []
 at g (p ∷ ps) = pick (inside g p.0 p.1) 1 0 ∷ at g ps
 
+-- the cell, if there is one
+abbrev visit_values : Option Visit → List ℕ
+visit_values None = []
+visit_values (Some v) = one v.cell
+
 abbrev after : Region → ℕ → List ℕ
-after g c = (tells area.visit_values (next g c)).number ∷ (tells area.visit_values (next g c)).values
+after g c = (tells visit_values (next g c)).number ∷ (tells visit_values (next g c)).values
 
 -- ---- rows
 

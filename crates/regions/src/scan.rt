@@ -1,56 +1,33 @@
 // The cells that are scanned for a question: those of its rectangle, which for touching is grown by the radius.
-ghost use Rattle.std.specs.Prelude.{◌≡◌, ◌+◌, ◌-◌, min};
-ghost use Rattle.base.specs.Outcome.{tells};
-ghost use Rattle.layout.specs.Question.{next_cell_says, visit_values};
+ghost use Rattle.std.specs.Prelude.{◌≡◌};
+ghost use Rattle.base.specs.Answer.{outcome_of};
 ghost use Rattle.regions.specs.Region.{grown, walked, visited, first_visit, next};
 
-use crate::region::{Checked, Kind, Region, check_region};
+use crate::region::{Kind, Region, check_region};
+use base::Corrupt;
 use layout::question::{
-    NextCell, Question as Rectangle, Visit, first_cell as first_in, is_visited as is_in,
-    next_cell as next_in,
+    Question as Rectangle, Visit, first_cell as first_in, is_visited as is_in, next_cell as next_in,
 };
 
-// A lower side moved out by the radius and cut at 0, and an upper one cut at 16,383.
-pub fn lowered(at: u32, radius: u32) -> u32
-    ensures { result ≡ at - radius }
-{
-    if at < radius {
-        return 0;
-    }
-    at - radius
-}
-
-fn raised(at: u32, radius: u32) -> u32
-    ensures { result ≡ min (at + radius) 16383 }
-{
-    let s = at as u64 + radius as u64;
-    if s > 16383 {
-        return 16383;
-    }
-    s as u32
-}
-
-// A rectangle grown on each side and cut at the edge of the grid.
+// A rectangle with each side moved out by the radius, and cut at the edge of the grid.
 fn grow(a: Rectangle, radius: u32) -> Rectangle
     ensures { result ≡ grown a radius }
 {
-    let x0 = lowered(a.x0, radius);
-    let y0 = lowered(a.y0, radius);
-    let x1 = raised(a.x1, radius);
-    let y1 = raised(a.y1, radius);
-    Rectangle { x0, y0, x1, y1 }
+    Rectangle {
+        x0: a.x0.saturating_sub(radius),
+        y0: a.y0.saturating_sub(radius),
+        x1: a.x1.saturating_add(radius).min(16383),
+        y1: a.y1.saturating_add(radius).min(16383),
+    }
 }
 
 // The rectangle whose cells are scanned.
 pub fn walked_area(g: Region) -> Rectangle
     ensures { result ≡ walked g }
 {
-    let kind = g.kind;
-    let area = g.area;
-    match kind {
-        Kind::Touching => grow(area, g.radius),
-        Kind::Within => area,
-        Kind::Centre => area,
+    match g.kind {
+        Kind::Touching => grow(g.area, g.radius),
+        Kind::Within | Kind::Centre => g.area,
     }
 }
 
@@ -58,10 +35,7 @@ pub fn walked_area(g: Region) -> Rectangle
 pub fn is_visited(g: Region, cell: u32) -> bool
     ensures { result ≡ visited g cell }
 {
-    let Checked::Accepted = check_region(g) else {
-        return false;
-    };
-    is_in(walked_area(g), cell)
+    check_region(g).is_ok() && is_in(walked_area(g), cell)
 }
 
 // The first cell of the scan.
@@ -71,12 +45,10 @@ pub fn first_cell(g: Region) -> Visit
     first_in(walked_area(g))
 }
 
-// The cell after a given one, or the end. Corrupt where the cell is none of the scan's.
-pub fn next_cell(g: Region, cell: u32) -> NextCell
-    ensures { tells visit_values (next g cell) ≡ next_cell_says result }
+// The cell after a given one, or none after the last. Corrupt where the cell is none of the scan's.
+pub fn next_cell(g: Region, cell: u32) -> Result<Option<Visit>, Corrupt>
+    ensures { outcome_of result ≡ next g cell }
 {
-    let Checked::Accepted = check_region(g) else {
-        return NextCell::Corrupt;
-    };
+    check_region(g).map_err(|_| Corrupt)?;
     next_in(walked_area(g), cell)
 }

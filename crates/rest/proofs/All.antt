@@ -1,19 +1,18 @@
 -- A test of every number below n, as a loop makes it: one number after the other, up to the first that fails.
 use mathlib.Core.Path.{◌≡◌, refl, sym}
-use mathlib.Core.Bool.{Bool, true, false, ◌&&◌}
+use mathlib.Core.List.{List}
+use mathlib.Core.Bool.{Bool, true, false}
 use Prim.Native.Nat.{ℕ, zero, suc, ◌+◌, ◌<◌, ◌≤◌}
 use native.Mathlib.Numerals.{add-one}
 use native.Mathlib.Omega.{arith}
-use Rattle.base.proofs.Table.{at_or, clash}
+use lib.ListN.{length, get_or, take}
+use Rattle.std.proofs.Math.Seq.{take-length}
+use Rattle.std.proofs.Math.Bool.{and_comm, and-false}
+use Rattle.std.proofs.lemmas.Bool.{and_parts}
+use Rattle.std.specs.List.{list_all}
+use Rattle.std.proofs.lemmas.List.Folds.{list_all_more}
+use Rattle.base.proofs.Table.{at_or}
 use Rattle.rest.specs.Rest.{all_below}
-
-pub and_true : (a b : Bool) → (a && b) ≡ true → (a ≡ true) × (b ≡ true)
-and_true true b e = (refl, e)
-and_true false b e = clash (cc)
-
-and_false : (a b : Bool) → b ≡ false → (a && b) ≡ false
-and_false true b e = e
-and_false false b e = refl
 
 module _ (f : ℕ → Bool) where
   pub all_none : all_below 0 f ≡ true
@@ -31,14 +30,14 @@ module _ (f : ℕ → Bool) where
   all_fails zero i h e = absurd (omega arith)
   all_fails (suc n) i h e = at_or i n
       (λ z. let w : f n ≡ false = rw z at e in rw w)
-      (λ z. and_false (f n) (all_below n f) (all_fails n i (omega arith) e))
+      (λ z. rw (all_fails n i (omega arith) e, and-false))
 
   -- all hold
   pub all_at : (n : ℕ) → all_below n f ≡ true → (i : ℕ) → i < n → f i ≡ true
   unfolding all_below
   all_at zero e i h = absurd (omega arith)
   all_at (suc n) e i h =
-      let w = and_true (f n) (all_below n f) e in
+      let w = and_parts (f n) (all_below n f) e in
       at_or i n (λ z. rw z w.0) (λ z. all_at n w.1 i (omega arith))
 
   pub all_from : (n : ℕ) → ((i : ℕ) → i < n → f i ≡ true) → all_below n f ≡ true
@@ -49,3 +48,15 @@ module _ (f : ℕ → Bool) where
   -- the loop is over
   pub all_below_lem : (n i : ℕ) → i ≤ n → n ≤ i → all_below i f ≡ true → true ≡ all_below n f
   all_below_lem n i h k e = let z : i ≡ n = omega arith in sym (rw z at e)
+
+-- the library's test of every element, in the elements' order
+module _ {X : Type 0} (p : X → Bool) (d : X) where
+  list_all_below : (n : ℕ) (xs : List X) → n ≤ length xs → list_all p (take n xs) ≡ all_below n (λ i. p (get_or xs i d))
+  unfolding all_below
+  list_all_below zero xs h = refl
+  list_all_below (suc n) xs h =
+      let m : n < length xs = omega arith in
+      rw (← add-one n, list_all_more p xs n d m, and_comm _ (p (get_or xs n d)), list_all_below n xs (omega arith))
+
+  pub all_of_array : (n : ℕ) (xs : List X) → length xs ≡ n → list_all p xs ≡ all_below n (λ i. p (get_or xs i d))
+  all_of_array n xs h = rw (← list_all_below n xs (omega arith), ← h, take-length)

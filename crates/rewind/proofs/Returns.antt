@@ -1,6 +1,5 @@
--- One law for each return of `rewind`, over variable tables; and what the two stores leave of the tables that were lent.
+-- What a rewind comes to, and what the two stores leave of the tables that were lent.
 use mathlib.Core.Path.{◌≡◌}
-use mathlib.Core.Bool.{true, false}
 use mathlib.Core.List.{List, map}
 use Prim.Native.Nat.{ℕ}
 use lib.IntN.{ℤ}
@@ -9,30 +8,15 @@ use Rattle.base.specs.Table.{at}
 use Rattle.words.specs.Map.{CLOCK, WORDS}
 use Rattle.stage.specs.declared.Updater.{Updater}
 use Rattle.query.specs.declared.Query.{Query}
-use Rattle.tables.specs.Tables.{Tables, right_lengths}
+use Rattle.tables.specs.Tables.{Tables}
 use Rattle.tables.specs.Grid.{grid}
 use Rattle.tables.proofs.Grid.{set_clock}
-use Rattle.calls.specs.Call.{After, after, after_of, unless}
-use Rattle.rest.specs.Rest.{is_at_rest}
+use Rattle.calls.specs.Call.{After, after}
 use Rattle.rewind.specs.Rewind.{wound_stamp, wound_clock, wound_tables, rewind_tables}
 
 -- what a rewind comes to
 abbrev pub wound : Tables → List Updater → List Query → After (Unit {0})
 wound t us qs = after t tt (rewind_tables t us qs)
-
-module _ (t : Tables) (us : List Updater) (qs : List Query) where
-  pub wrong_length : right_lengths t ≡ false → wound t us qs ≡ after_of 12 t tt
-  unfolding rewind_tables unless after
-  wrong_length e = rw e
-
-  pub in_motion : right_lengths t ≡ true → is_at_rest us qs ≡ false → wound t us qs ≡ after_of 30 t tt
-  unfolding rewind_tables unless after
-  in_motion e r = rw (e, r)
-
-  pub wound_back : right_lengths t ≡ true → is_at_rest us qs ≡ true → (t' : Tables) → wound_tables t ≡ t'
-      → wound t us qs ≡ after_of 0 t' tt
-  unfolding rewind_tables unless after
-  wound_back e r t' z = rw (e, r, z)
 
 -- the stamps are wound back, and then the clock
 pub wound_grid_lem : (w : List ℕ) (ts ts' : List ℤ) (v : ℕ) → length w ≡ WORDS → ts' ≡ map wound_stamp ts

@@ -6,8 +6,5 @@ ghost use Rattle.rewind.specs.Rewind.{wound_clock};
 pub fn wind_clock(clock: u32) -> u32
     ensures { result ≡ wound_clock clock }
 {
-    if clock > 1 {
-        return 1;
-    }
-    clock
+    clock.min(1)
 }

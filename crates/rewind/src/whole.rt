@@ -29,7 +29,6 @@ pub fn rewind(
         return BUSY;
     }
     wind_stamps(times);
-    let clock = words[CLOCK];
-    words[CLOCK] = wind_clock(clock);
+    words[CLOCK] = wind_clock(words[CLOCK]);
     DONE
 }

@@ -6,7 +6,7 @@
 use mathlib.Core.Path.{◌≡◌, refl, sym, ap, ◌∙◌}
 use mathlib.Core.Logic.{◌≢◌, ◌⊎◌, inl, inr, ⊎_elim}
 use mathlib.Core.Bool.{Bool, true, false}
-use mathlib.Core.Option.{Option, none, some}
+use Rattle.std.specs.Prelude.{Option, None, Some}
 use Prim.Native.Nat.{ℕ, zero, suc, ◌+◌, ◌-◌, ◌*◌, ◌<◌, ◌≤◌}
 use native.Mathlib.Omega.{arith}
 use lib.Dec.{T}
@@ -40,56 +40,56 @@ use Rattle.runs.proofs.View.{view, tup_f, tup_at}
 
 -- a new tuple of an object is at q, or a second copy
 abbrev Extra : Pos → Place → Type 0
-Extra g q = (g.new ≡ some q) ⊎ (g.dup ≡ some q)
+Extra g q = (g.new ≡ Some q) ⊎ (g.dup ≡ Some q)
 
 -- the places of an object that has neither
-none_extra : {g : Pos} {q : Place} (c p : Option Place) (f : Bool) → g ≡ mk c p none none f → Extra g q → ⊥
+none_extra : {g : Pos} {q : Place} (c p : Option Place) (f : Bool) → g ≡ mk c p None None f → Extra g q → ⊥
 none_extra c p f e x = ⊎_elim (λ z. clash (cc)) (λ z. clash (cc)) x
 
 -- an object whose only such tuple is a second copy at p
-dup_extra : {g : Pos} {q : Place} (c o : Option Place) (p : Place) (f : Bool) → g ≡ mk c o none (some p) f → Extra g q
+dup_extra : {g : Pos} {q : Place} (c o : Option Place) (p : Place) (f : Bool) → g ≡ mk c o None (Some p) f → Extra g q
     → p.bucket ≡ q.bucket
 dup_extra {g} {q} c o p f e x =
     ⊎_elim (λ z. clash (cc)) (λ z. let w : p ≡ q = cc in ap (λ (y : Place). y.bucket) w) x
 
 -- or a new one at p
-new_extra : {g : Pos} {q : Place} (c o : Option Place) (p : Place) (f : Bool) → g ≡ mk c o (some p) none f → Extra g q
+new_extra : {g : Pos} {q : Place} (c o : Option Place) (p : Place) (f : Bool) → g ≡ mk c o (Some p) None f → Extra g q
     → p.bucket ≡ q.bucket
 new_extra {g} {q} c o p f e x =
     ⊎_elim (λ z. let w : p ≡ q = cc in ap (λ (y : Place). y.bucket) w) (λ z. clash (cc)) x
 
-moved_none : {p q : Place} {e : Entry} {g : Pos} → Moved p e g none → Extra g q → ⊥
-moved_none {p} {e} (moved_cur w) x = none_extra (some p) e.prev false w x
-moved_none {p} {e} (moved_prev w) x = none_extra e.cur (some p) false w x
+moved_none : {p q : Place} {e : Entry} {g : Pos} → Moved p e g None → Extra g q → ⊥
+moved_none {p} {e} (moved_cur w) x = none_extra (Some p) e.prev false w x
+moved_none {p} {e} (moved_prev w) x = none_extra e.cur (Some p) false w x
 
-moved_dup : {p q r : Place} {e : Entry} {g : Pos} → Moved p e g (some r) → Extra g q → r.bucket ≡ q.bucket
-moved_dup {p} {q} {r} {e} (moved_cur w) x = dup_extra (some p) e.prev r false w x
-moved_dup {p} {q} {r} {e} (moved_prev w) x = dup_extra e.cur (some p) r false w x
+moved_dup : {p q r : Place} {e : Entry} {g : Pos} → Moved p e g (Some r) → Extra g q → r.bucket ≡ q.bucket
+moved_dup {p} {q} {r} {e} (moved_cur w) x = dup_extra (Some p) e.prev r false w x
+moved_dup {p} {q} {r} {e} (moved_prev w) x = dup_extra e.cur (Some p) r false w x
 
 module _ {k m : ℕ} {p : Place} {e em : Entry} {g gm : Pos} where
   -- while the count is to be lowered, the second copy is in the first bucket
   lower_own : {q : Place} (t : Top) → Lowering k p m e g em gm t → Extra g q → t.bucket ≡ q.bucket
-  lower_own t (Lowering.same x y _) z = dup_extra e.cur none (pl p.cell t.bucket (t.n - 1)) false y z
-  lower_own t (Lowering.other x y v) z = absurd (none_extra e.cur none false y z)
+  lower_own t (Lowering.same x y _) z = dup_extra e.cur None (pl p.cell t.bucket (t.n - 1)) false y z
+  lower_own t (Lowering.other x y v) z = absurd (none_extra e.cur None false y z)
 
   lower_moved : {q : Place} (t : Top) → m ≢ k → Lowering k p m e g em gm t → Extra gm q → t.bucket ≡ q.bucket
   lower_moved t n (Lowering.same x y _) z = absurd (n x)
   lower_moved t n (Lowering.other x y v) z = moved_dup v z
 
-  lower_former : (t : Top) → Lowering k p m e g em gm t → g.prev ≡ none
+  lower_former : (t : Top) → Lowering k p m e g em gm t → g.prev ≡ None
   lower_former t (Lowering.same x y _) = rw y
   lower_former t (Lowering.other x y v) = rw y
 
   -- then there is none
   erase_own : {q : Place} → Erasing k p m e g em gm → Extra g q → ⊥
-  erase_own (Erasing.same x y) z = none_extra e.cur none false y z
-  erase_own (Erasing.other x y v) z = none_extra e.cur none false y z
+  erase_own (Erasing.same x y) z = none_extra e.cur None false y z
+  erase_own (Erasing.other x y v) z = none_extra e.cur None false y z
 
   erase_moved : {q : Place} → m ≢ k → Erasing k p m e g em gm → Extra gm q → ⊥
   erase_moved n (Erasing.same x y) z = n x
   erase_moved n (Erasing.other x y v) z = moved_none v z
 
-  erase_former : Erasing k p m e g em gm → g.prev ≡ none
+  erase_former : Erasing k p m e g em gm → g.prev ≡ None
   erase_former (Erasing.same x y) = rw y
   erase_former (Erasing.other x y v) = rw y
 
@@ -104,7 +104,7 @@ module _ (g : Grid) (G : Good g) where
 
   -- the bucket at work in lane l, at a stage
   abbrev Work : ℕ → Stage → ℕ → Type 0
-  Work l s b = at_work g.tables.first (goal (updater g l)) s ≡ some b
+  Work l s b = at_work g.tables.first (goal (updater g l)) s ≡ Some b
 
   -- such a tuple of the update's own object is in the bucket at work
   own_extra : (l : ℕ) → l < 8 → (s : Stage) → (updater g l).stage ≡ s → T (stage_holds_own s) → (q : Place)
@@ -115,7 +115,7 @@ module _ (g : Grid) (G : Good g) where
   own_extra l l< (LockCell p) st t q x = absurd (none_extra _ _ _ (at_stage G.inv l l< (LockCell p) st).1 x)
   own_extra l l< (LookLast p) st t q x = absurd (none_extra _ _ _ (at_stage G.inv l l< (LookLast p) st).1 x)
   own_extra l l< (CopyLast p m) st t q x = absurd (none_extra _ _ _ (at_stage G.inv l l< (CopyLast p m) st).1 x)
-  own_extra l l< (LowerCount p m) st t q x = ap some (lower_own _ (at_stage G.inv l l< (LowerCount p m) st) x)
+  own_extra l l< (LowerCount p m) st t q x = ap Some (lower_own _ (at_stage G.inv l l< (LowerCount p m) st) x)
   own_extra l l< (ReturnBucket p m b) st t q x =
       absurd (erase_own (at_stage G.inv l l< (ReturnBucket p m b) st).0 x)
   own_extra l l< (ErasePlace p m) st t q x = absurd (erase_own (at_stage G.inv l l< (ErasePlace p m) st) x)
@@ -124,7 +124,7 @@ module _ (g : Grid) (G : Good g) where
   own_extra l l< WriteTuple st t q x = absurd (none_extra _ _ _ (at_stage G.inv l l< WriteTuple st).0 x)
   own_extra l l< (RaiseCount p) st t q x = absurd (none_extra _ _ _ (at_stage G.inv l l< (RaiseCount p) st).0 x)
   own_extra l l< (SwitchPlace p) st t q x =
-      ap some (new_extra _ _ p _ (at_stage G.inv l l< (SwitchPlace p) st).0 x)
+      ap Some (new_extra _ _ p _ (at_stage G.inv l l< (SwitchPlace p) st).0 x)
   own_extra l l< (DeleteOld p) st t q x = absurd (none_extra _ _ _ (at_stage G.inv l l< (DeleteOld p) st).1 x)
   own_extra l l< ReleaseObject st t q x = absurd (none_extra _ _ _ (at_stage G.inv l l< ReleaseObject st) x)
 
@@ -140,7 +140,7 @@ module _ (g : Grid) (G : Good g) where
   moved_extra l l< (CopyLast p m) st t n q x =
       absurd (none_extra _ _ _ (at_stage G.inv l l< (CopyLast p m) st).2 x)
   moved_extra l l< (LowerCount p m) st t n q x =
-      ap some (lower_moved _ n (at_stage G.inv l l< (LowerCount p m) st) x)
+      ap Some (lower_moved _ n (at_stage G.inv l l< (LowerCount p m) st) x)
   moved_extra l l< (ReturnBucket p m b) st t n q x =
       absurd (erase_moved n (at_stage G.inv l l< (ReturnBucket p m b) st).0 x)
   moved_extra l l< (ErasePlace p m) st t n q x =
@@ -155,7 +155,7 @@ module _ (g : Grid) (G : Good g) where
 
   -- an update with a bucket at work holds its object, which has no former tuple
   at_work_lem : (l : ℕ) → l < 8 → (s : Stage) → (updater g l).stage ≡ s → (b : ℕ) → Work l s b
-      → T (stage_holds_own s) × ((gh (updater g l).oid).prev ≡ none)
+      → T (stage_holds_own s) × ((gh (updater g l).oid).prev ≡ None)
   unfolding view Ok mv bk cl stage_holds_own at_work
   at_work_lem l l< Idle st b z = clash (cc)
   at_work_lem l l< TakeObject st b z = clash (cc)
@@ -200,8 +200,8 @@ module _ (g : Grid) (G : Good g) where
   -- ---- claims: false for the current tuple, true for the former one or in its place
 
   data Claim (b k : ℕ) : Bool → Type 0 where
-    by_current : (p : Place) → (gh k).cur ≡ some p → p.bucket ≡ b → Claim b k false
-    by_former : (p : Place) → (gh k).prev ≡ some p → p.bucket ≡ b → Claim b k true
+    by_current : (p : Place) → (gh k).cur ≡ Some p → p.bucket ≡ b → Claim b k false
+    by_former : (p : Place) → (gh k).prev ≡ Some p → p.bucket ≡ b → Claim b k true
     by_update : (l : ℕ) → l < 8 → (updater g l).oid ≡ k → Work l (updater g l).stage b → Claim b k true
 
   record Claimed (b : ℕ) : Type 0 where
@@ -241,7 +241,7 @@ module _ (g : Grid) (G : Good g) where
   unfolding view sel
   by_slot b c h o lt = let u = G.inv.slots.forth b c h 0 o lt in go u.0 u.1
     where
-      go : (κ : Kind) → sel κ (gh ((view g).tup b 0).oid) ≡ some (pl c b 0) → Claimed b
+      go : (κ : Kind) → sel κ (gh ((view g).tup b 0).oid) ≡ Some (pl c b 0) → Claimed b
       go k_cur z =
           let B = G.inv.slots.back k_cur _ _ z in
           record { k = _; kind = false; claim = by_current (pl c b 0) z refl; heard = B.2 }
@@ -289,7 +289,7 @@ module _ (g : Grid) (G : Good g) where
 
   -- the update that claims has the object's lock, and the object no former tuple
   update_lock : (l b k : ℕ) → l < 8 → (updater g l).oid ≡ k → Work l (updater g l).stage b
-      → ((view g).lock k ≡ suc l) × ((gh k).prev ≡ none)
+      → ((view g).lock k ≡ suc l) × ((gh k).prev ≡ None)
   unfolding view
   update_lock l b k l< o z =
       let w = at_work_lem l l< (updater g l).stage refl b z in
@@ -307,7 +307,7 @@ module _ (g : Grid) (G : Good g) where
   one_claim b b' k _ (by_update l l< o z) (by_update l' l'< o' z') =
       let w : suc l ≡ suc l' = sym (update_lock l b k l< o z).0 ∙ (update_lock l' b' k l'< o' z').0 in
       let same : l ≡ l' = omega arith in
-      let x : some b ≡ some b' =
+      let x : Some b ≡ Some b' =
       sym z ∙ ap (λ (j : ℕ). at_work g.tables.first (goal (updater g j)) (updater g j).stage) same ∙ z' in
       cc
 
@@ -353,7 +353,7 @@ module _ (g : Grid) (G : Good g) where
       let d = g.tables.tuples in
       Counts g b p.slot k × (tup_f d b p.slot ≡ tuple_in d (slot_at b p.slot))
 
-  counts : (κ : Kind) (k b : ℕ) (p : Place) → sel κ (gh k) ≡ some p → p.bucket ≡ b → tuple_in_lem b p k
+  counts : (κ : Kind) (k b : ℕ) (p : Place) → sel κ (gh k) ≡ Some p → p.bucket ≡ b → tuple_in_lem b p k
   unfolding view tuple_in_lem
   counts κ k b p e q =
       let B = G.inv.slots.back κ k p e in

@@ -6,7 +6,7 @@
 use mathlib.Core.Path.{◌≡◌, refl, sym, ap, ◌∙◌}
 use mathlib.Core.Logic.{◌≢◌, ◌⊎◌, inl, inr, ⊎_elim}
 use mathlib.Core.Bool.{true}
-use mathlib.Core.Option.{some}
+use Rattle.std.specs.Prelude.{Some}
 use mathlib.Core.List.{List, []}
 use Prim.Native.Nat.{ℕ, zero, suc, ◌<◌, ◌≤◌}
 use native.Mathlib.Omega.{arith}
@@ -65,7 +65,7 @@ module _ (g : Grid) (G : Good g) where
   unfolding view
   linked b c i =
       let w = chain_walked g.tables.first g.tables.next c G.inv.links i.0 in
-      let e : some i.1.0 ≡ some w.0 = sym i.1.1 ∙ w.1.chain in
+      let e : Some i.1.0 ≡ Some w.0 = sym i.1.1 ∙ w.1.chain in
       let z : i.1.0 ≡ w.0 = cc in
       let t = w.1.theirs b (rw z at i.1.2) in
       (t.0, t.2)
@@ -104,7 +104,7 @@ module _ (g : Grid) (G : Good g) where
       (on, cell_below (updater g l).x (updater g l).y on)
 
   -- the bucket of a tuple is in a chain
-  tuple_out : (κ : Kind) (k : ℕ) (p : Place) → sel κ (G.ghost.gh k) ≡ some p → own p.bucket ≢ in_pool
+  tuple_out : (κ : Kind) (k : ℕ) (p : Place) → sel κ (G.ghost.gh k) ≡ Some p → own p.bucket ≢ in_pool
   tuple_out κ k p e z = let L = (G.inv.slots.back κ k p e).0 in let o = L.owned in clash (cc)
 
   -- a bucket in hand is not in the pool

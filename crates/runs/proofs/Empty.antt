@@ -1,7 +1,7 @@
 -- The empty grid has what every grid of a run has: no bucket is in a chain, no object is known, nobody is under way.
 use mathlib.Core.Path.{◌≡◌, refl, ap}
 use mathlib.Core.Bool.{Bool, true, false}
-use mathlib.Core.Option.{none}
+use Rattle.std.specs.Prelude.{None}
 use Prim.Native.Nat.{ℕ, zero, suc, ◌+◌, ◌*◌, ◌<◌, ◌≤◌}
 use native.Mathlib.Omega.{arith}
 use lib.Dec.{T, ltb}
@@ -58,10 +58,10 @@ record Blank (d : St) : Type 0 where
   pub known : (k : ℕ) → d.known k ≡ false
   pub size : d.size ≡ 0
   pub lock : (k : ℕ) → d.lock k ≡ 0
-  pub ent : (k : ℕ) → d.ent k ≡ record { cur = none; prev = none }
+  pub ent : (k : ℕ) → d.ent k ≡ record { cur = None; prev = None }
   pub clock : d.clock ≡ 0
   pub lanes : (l : ℕ) → (d.lanes l).stage ≡ Idle
-  pub queries : (q : ℕ) → (d.queries q).bucket ≡ none
+  pub queries : (q : ℕ) → (d.queries q).bucket ≡ None
 
 tuple_blank : (b i : ℕ) (t : Bool) → nat_abs (pick {A = Tuple} t (record { oid = at (replicate 2048 0) (4 * b + i); x = at (replicate 2048 0) (4 * b + i); y = at (replicate 2048 0) (4 * b + i); tag = at (replicate 2048 0) (4 * b + i); time = get_or (replicate 2048 (pos 0)) (4 * b + i) (pos 0) }) (record { oid = 0; x = 0; y = 0; tag = 0; time = pos 0 })).time ≡ 0
 unfolding pick

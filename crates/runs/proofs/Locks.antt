@@ -4,7 +4,7 @@
 -- free is known.
 use mathlib.Core.Path.{◌≡◌, refl, sym, ap, ◌∙◌}
 use mathlib.Core.Logic.{◌⊎◌, inl, inr, ⊎_elim}
-use mathlib.Core.Option.{Option, none, some}
+use Rattle.std.specs.Prelude.{Option, None, Some}
 use mathlib.Core.List.{[], ◌∷◌}
 use Prim.Native.Nat.{ℕ, suc, ◌<◌}
 use lib.Dec.{T}
@@ -23,7 +23,7 @@ use Rattle.runs.proofs.Quiet.{locks_owned, objects_owned}
 use Rattle.runs.proofs.View.{view, lock_f}
 
 -- the cell that the statement gives a stage is the invariant's
-cell_held : (s : Stage) (c d : ℕ) → held_cell s c ≡ some d → T (cel_held s) × (cl c s ≡ d)
+cell_held : (s : Stage) (c d : ℕ) → held_cell s c ≡ Some d → T (cel_held s) × (cl c s ≡ d)
 unfolding held_cell cel_held cl
 cell_held Idle c d e = clash (cc)
 cell_held TakeObject c d e = clash (cc)
@@ -71,10 +71,10 @@ object_held (DeleteOld p) k j i = one-held (DeleteOld p) k j tt i
 object_held ReleaseObject k j i = one-held ReleaseObject k j tt i
 
 -- an object whose lock is not free has an entry
-lock_some : (o : Option Entry) (l : ℕ) → lock_f o ≡ suc l → (e : Entry) × (o ≡ some e) × (e.lock ≡ suc l)
+lock_some : (o : Option Entry) (l : ℕ) → lock_f o ≡ suc l → (e : Entry) × (o ≡ Some e) × (e.lock ≡ suc l)
 unfolding lock_f
-lock_some none l z = clash (cc)
-lock_some (some e) l z = (e, refl, z)
+lock_some None l z = clash (cc)
+lock_some (Some e) l z = (e, refl, z)
 
 module _ (g : Grid) (G : Good g) where
   has_cell : (c l : ℕ) → l < 8 → HoldsCell (updater g l) c → at g.tables.cells c ≡ suc l

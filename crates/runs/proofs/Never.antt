@@ -3,7 +3,7 @@
 use mathlib.Core.Path.{◌≡◌, refl, ◌∙◌}
 use mathlib.Core.Logic.{◌≢◌, ◌⊎◌, ⊎_elim}
 use mathlib.Core.Bool.{Bool, true, false, not, ◌&&◌, ◌||◌}
-use mathlib.Core.Option.{Option, none, some}
+use Rattle.std.specs.Prelude.{Option, None, Some}
 use mathlib.Core.List.{List, [], ◌∷◌}
 use Prim.Native.Nat.{ℕ, zero, suc, ◌+◌, ◌-◌, ◌*◌, ◌<◌, ◌≤◌}
 use native.Mathlib.Omega.{arith}
@@ -108,25 +108,25 @@ pub record Open (readers count : ℕ → ℕ) (b : ℕ) : Type 0 where
   pub most : count b ≤ 4
 
 module _ (d : St) where
-  open_some : (b : ℕ) {r : Out} (k : Option Out) → need (ltb b 512) (need (ltb (d.readers b) 4) (need (leb (d.count b) 4) k)) ≡ some r → Open d.readers d.count b
+  open_some : (b : ℕ) {r : Out} (k : Option Out) → need (ltb b 512) (need (ltb (d.readers b) 4) (need (leb (d.count b) 4) k)) ≡ Some r → Open d.readers d.count b
   open_some b k e =
       let x = need_some_lem (ltb b 512) _ e in
       let y = need_some_lem (ltb (d.readers b) 4) _ x.1 in
       let z = need_some_lem (leb (d.count b) 4) _ y.1 in
       record { within = ltb→lt _ _ x.0; free = ltb→lt _ _ y.0; most = leb→le _ _ z.0 }
 
-  enter_some : (q c : ℕ) (r : Out) → query_step q c none d ≡ some r → d.cell_lock c ≡ 0 → d.first c ≢ 512 → Open d.readers d.count (d.first c)
+  enter_some : (q c : ℕ) (r : Out) → query_step q c None d ≡ Some r → d.cell_lock c ≡ 0 → d.first c ≢ 512 → Open d.readers d.count (d.first c)
   unfolding query_step enter_at pick
   enter_some q c r e z n = open_some (d.first c) _ (rw (eq-eqb _ _ z, ne_eqb _ _ n) at e)
 
-  leave_some : (q c b : ℕ) (r : Out) → query_step q c (some b) d ≡ some r → (d.queries q).left ≡ 0 → (0 < d.readers b) × (d.next b ≢ 512 → Open d.readers d.count (d.next b))
+  leave_some : (q c b : ℕ) (r : Out) → query_step q c (Some b) d ≡ Some r → (d.queries q).left ≡ 0 → (0 < d.readers b) × (d.next b ≢ 512 → Open d.readers d.count (d.next b))
   unfolding query_step read_out_at leave_at pick
   leave_some q c b r e z =
       let x = need_some_lem (ltb 0 (d.readers b)) _ (rw z at e) in
       (ltb→lt _ _ x.0, λ n. open_some (d.next b) _ (rw (ne_eqb _ _ n) at x.1))
 
 -- a query's step, by where it stands
-walk_some : {gh : Ghost} (d : St) → Inv store gh d → (q : ℕ) → q < 4 → (c : ℕ) → c < 256 → (o : Option ℕ) → (d.queries q).bucket ≡ o → (r : Out) × (query_step q c o d ≡ some r)
+walk_some : {gh : Ghost} (d : St) → Inv store gh d → (q : ℕ) → q < 4 → (c : ℕ) → c < 256 → (o : Option ℕ) → (d.queries q).bucket ≡ o → (r : Out) × (query_step q c o d ≡ Some r)
 walk_some d I q q< c c< o e =
     let w = ends_some (query_step q c o d) (rw e at (keeps_walk I q q< c c<)) in
     (w.0, w.1)
@@ -148,8 +148,8 @@ module _ {kn : ℕ → Type 0} (R : Numbered kn) (h : Hits) (o# : length h.oid �
   not_full = by_look (look_from h.oid k n (256 * q)) refl
     where
       by_look : (o : Option ℕ) → look_from h.oid k n (256 * q) ≡ o → (unlisted o && leb 256 n) ≡ false
-      by_look none e = lt-leb 256 n (room R h o# x# y# m# q n q< L (record { oid = k; x = 0; y = 0; tag = 0; deleted = false; time = 0 }) known (λ j j<. look_no h.oid k n (256 * q) j e j<))
-      by_look (some i) e = refl
+      by_look None e = lt-leb 256 n (room R h o# x# y# m# q n q< L (record { oid = k; x = 0; y = 0; tag = 0; deleted = false; time = 0 }) known (λ j j<. look_no h.oid k n (256 * q) j e j<))
+      by_look (Some i) e = refl
 
 -- ---- the causes of a step, none of which holds
 
@@ -230,7 +230,7 @@ module _ (g : Grid) (G : Good g) (q : ℕ) (q< : q < 4) where
       let o = rw e at (G.asks q q<) in
       let v = o.0.visits in
       let c< : c < 256 = visited_below s.question c v in
-      let w = walk_some (view g) G.inv q q< c c< none (rw e) in
+      let w = walk_some (view g) G.inv q q< c c< None (rw e) in
       rw (scan_number_lem t q s Z (Enter c)) (enter_clear t q s c (omega (arith, o.2)) v ((ranges G.inv).cell_locks c)
       (λ z n. enter_some (view g) q c w.0 w.1 z n) (first≤ c c<))
 
@@ -247,14 +247,14 @@ module _ (g : Grid) (G : Good g) (q : ℕ) (q< : q < 4) where
       let r = w.left in
       let o = rw e at (G.asks q q<) in
       let v = o.0.visits in
-      let at_b : ((view g).queries q).bucket ≡ some b = rw e in
+      let at_b : ((view g).queries q).bucket ≡ Some b = rw e in
       let left : ((view g).queries q).left ≡ r = rw e in
       let k = I.reading.standing q b q< at_b in
       let b< = stood< b _ k.h k.owned in
       let few : s.steps ≤ 655616 = omega (arith, o.2 k.h (stands_deep I b _ k.h k.owned)) in
       rw (scan_number_lem t q s Z (Read c w)) (either (eqb r 0) _ _ _
       (λ z.
-      let m = walk_some (view g) I q q< c (visited_below s.question c v) (some b) at_b in
+      let m = walk_some (view g) I q q< c (visited_below s.question c v) (Some b) at_b in
       let n = leave_some (view g) q c b m.0 m.1 (left ∙ eqb-true r 0 z) in
       leave_clear t q s c few v b b< n.0 ((ranges I).readers b) n.1 _)
       (λ z.

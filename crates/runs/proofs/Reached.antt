@@ -2,7 +2,7 @@
 -- cells of their coordinates (specs/Reached.antt). The first two are what every grid of a run has of its index
 -- (`Shape`); the last is the invariant's `Placed`, of the slots that walking a cell finds.
 use mathlib.Core.Path.{◌≡◌, sym, ap, ◌∙◌}
-use mathlib.Core.Option.{some}
+use Rattle.std.specs.Prelude.{Some}
 use Prim.Native.Nat.{ℕ}
 use native.Mathlib.Omega.{arith}
 use Rattle.base.specs.Table.{at}
@@ -24,7 +24,7 @@ module _ (g : Grid) (G : Good g) where
   d = g.tables.index
 
   -- what the search finds is the entry
-  entry_of : (i : ℕ) → Entered g.tables i → entry_for d (at d.oid i) ≡ some (entry_at d i)
+  entry_of : (i : ℕ) → Entered g.tables i → entry_for d (at d.oid i) ≡ Some (entry_at d i)
   entry_of i n = found_lookup d (at d.oid i) (G.shape.index.reach i n.0 n.1)
 
   pub reached : Reached g.tables

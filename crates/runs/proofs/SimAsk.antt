@@ -1,7 +1,7 @@
 -- The start of a query: the invariant holds at a later clock, and the query stands in no bucket.
 use mathlib.Core.Path.{◌≡◌, refl, sym, ap, ◌∙◌}
 use mathlib.Core.Bool.{true}
-use mathlib.Core.Option.{none}
+use Rattle.std.specs.Prelude.{None}
 use mathlib.Core.List.{List}
 use Prim.Native.Nat.{ℕ, ◌+◌, ◌<◌, ◌≤◌}
 use native.Mathlib.Omega.{arith}
@@ -57,11 +57,11 @@ later_clock {d = d} n I le early =
     }
 
 -- a query that is to enter a cell stands in no bucket, nor does an idle one
-entering_outside : (c : ℕ) → (scanner_f (Enter c)).bucket ≡ none
+entering_outside : (c : ℕ) → (scanner_f (Enter c)).bucket ≡ None
 unfolding scanner_f
 entering_outside c = refl
 
-idle_outside : (s : Scan) → isIdleQuery s ≡ true → (scanner_f s).bucket ≡ none
+idle_outside : (s : Scan) → isIdleQuery s ≡ true → (scanner_f s).bucket ≡ None
 unfolding isIdleQuery scanner_f
 idle_outside IdleQuery e = refl
 idle_outside (Enter c) e = clash (cc)
@@ -73,7 +73,7 @@ abbrev pub QueryBegins : {O : StoreOps} → Store O → Ghost → Grid → Table
 QueryBegins S gh g t' qs' = Shape (grid_of t' g.updaters qs') × Inv S gh (view (grid_of t' g.updaters qs'))
 
 -- the grid that a start leaves
-query_begun : {O : StoreOps} {S : Store O} {gh : Ghost} (g : Grid) (l : ℕ) (v : Query) → Shape g → Inv S gh (view g) → l < 4 → (scanner_f (get_or g.queries l idle_query).stage).bucket ≡ none → (scanner_f v.stage).bucket ≡ none → g.tables.clock < 2147483600
+query_begun : {O : StoreOps} {S : Store O} {gh : Ghost} (g : Grid) (l : ℕ) (v : Query) → Shape g → Inv S gh (view g) → l < 4 → (scanner_f (get_or g.queries l idle_query).stage).bucket ≡ None → (scanner_f v.stage).bucket ≡ None → g.tables.clock < 2147483600
     → QueryBegins S gh g (with_clock g.tables (g.tables.clock + 1)) (set g.queries l v)
 unfolding view
 query_begun g l v Z I l< was is early =

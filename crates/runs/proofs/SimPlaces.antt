@@ -5,7 +5,7 @@
 use mathlib.Core.Path.{◌≡◌, refl, sym, ap, ◌∙◌}
 use mathlib.Core.Logic.{◌≢◌}
 use mathlib.Core.Bool.{Bool, true, false}
-use mathlib.Core.Option.{Option, none, some}
+use Rattle.std.specs.Prelude.{Option, None, Some}
 use mathlib.Core.List.{List}
 use Prim.Native.Nat.{ℕ, suc, ◌<◌, ◌≤◌}
 use native.Mathlib.Omega.{arith}
@@ -54,12 +54,12 @@ use Rattle.runs.proofs.Objects.{known_found, decode_at}
 -- ---- places as numbers
 
 -- the machine sees a place's number as the place
-place_seen : (p : Place) (n : ℕ) → encode p ≡ done n → place_f n ≡ some p
+place_seen : (p : Place) (n : ℕ) → encode p ≡ done n → place_f n ≡ Some p
 unfolding came
 place_seen p n e = rw (decode_encode p n e)
 
 -- and 524,288 as none
-nowhere_seen : place_f 524288 ≡ none
+nowhere_seen : place_f 524288 ≡ None
 unfolding came
 nowhere_seen = rw decode_nowhere
 
@@ -156,7 +156,7 @@ module _ (d x : Index) (L : ℕ → ℕ) (E : ℕ → Places) (k i : ℕ) (q : f
   -- the places shifted: the machine sees the old one, and the new one as current
   now_shift : (p : Place) (n : ℕ) → encode p ≡ done n → n < 524288
       → (shift x.current x.previous i p ≡ done (record { old = (E k).cur; current = set x.current i n; previous = set x.previous i (at x.current i) }))
-      × Now d (index_of x.oid x.lock (set x.current i n) (set x.previous i (at x.current i))) L (upd E k (record { cur = some p; prev = (E k).cur }))
+      × Now d (index_of x.oid x.lock (set x.current i n) (set x.previous i (at x.current i))) L (upd E k (record { cur = Some p; prev = (E k).cur }))
   now_shift p n z n< = (
     rw places_here (shift_done x.current x.previous i p n current_in previous_in (W.coded.current i) z),
     rw (places_here, ← place_seen p n z) (now_both n (at x.current i) (omega arith) (W.coded.current i)),
@@ -170,7 +170,7 @@ module _ (d x : Index) (L : ℕ → ℕ) (E : ℕ → Places) (k i : ℕ) (q : f
   -- the previous or the current place written
   now_correct : (b : Bool) (cells : List ℕ) (p : Place) (n : ℕ) → encode p ≡ done n → n < 524288
       → (c : List ℕ) × (v : List ℕ) × (correct (erasing_of x.lock x.current x.previous cells) i p b ≡ done (erasing_of x.lock c v cells))
-      × Now d (index_of x.oid x.lock c v) L (upd E k (pick b (record { cur = (E k).cur; prev = some p }) (record { cur = some p; prev = (E k).prev })))
+      × Now d (index_of x.oid x.lock c v) L (upd E k (pick b (record { cur = (E k).cur; prev = Some p }) (record { cur = Some p; prev = (E k).prev })))
   unfolding correct put_place need and_then pick
   now_correct true cells p n z n< =
       (x.current, set x.previous i n, rw (lt-ltb i (length x.previous) previous_in, z), rw (← place_seen p n z) (now_previous n (omega arith)))
@@ -206,7 +206,7 @@ unfolding sign need_slot need
 sign_done d b i b< i< lo hi = rw (lt-ltb b 512 b<, lt-ltb i 4 i<, ← ap (λ (v : Tuple). v.time) (tup_at d b i i<)) (sign_stamp (tup_f d b i).time lo hi)
 
 -- at stage 7 a tuple of another object is at one of its places
-moved_kind : (k : ℕ) (p : Place) (m : ℕ) (e : Places) (g : Pos) (em : Places) (gm : Pos) → m ≢ k → Erasing k p m e g em gm → (κ : Kind) × (sel κ gm ≡ some p)
+moved_kind : (k : ℕ) (p : Place) (m : ℕ) (e : Places) (g : Pos) (em : Places) (gm : Pos) → m ≢ k → Erasing k p m e g em gm → (κ : Kind) × (sel κ gm ≡ Some p)
 unfolding sel
 moved_kind k p m e g em gm n (Erasing.same w z) = absurd (n w)
 moved_kind k p m e g em gm n (Erasing.other w z (moved_cur y)) = (k_cur, rw y)
@@ -215,8 +215,8 @@ moved_kind k p m e g em gm n (Erasing.other w z (moved_prev y)) = (k_prev, rw y)
 -- with an old place the machine goes to 13 as the stage does, else to 14
 fork_switching : (l : ℕ) (a : Updater) (o : Option Place) (d : St) → fork o (λ q. on l a (DeleteOld q) d) (on l a ReleaseObject d) ≡ on l a (after_switching o) d
 unfolding fork
-fork_switching l a none d = refl
-fork_switching l a (some q) d = refl
+fork_switching l a None d = refl
+fork_switching l a (Some q) d = refl
 
 -- ---- the grid with such an index, and a cell released
 
@@ -260,7 +260,7 @@ module _ (g : Grid) (Z : Shape g) (gh : Ghost) (I : Inv store gh (view g)) (l : 
 
   -- at the entry that the reporter is found at
   switched : (p : Place) (r : Out) (i n : ℕ) → find t.index.oid u.oid ≡ Found i → encode p ≡ done n → n < 524288 → p.cell < 256
-      → do_stage ops l u (view g) (SwitchPlace p) ≡ some r → Sim g l (stage_on t (suc l) u (SwitchPlace p)) r
+      → do_stage ops l u (view g) (SwitchPlace p) ≡ Some r → Sim g l (stage_on t (suc l) u (SwitchPlace p)) r
   unfolding do_stage stage12m stage_on stage12 lift and_then at_entry view
   switched p r i n q z n< c< e =
       let y = now_shift t.index t.index _ _ u.oid i q at_start_lem p n z n< in
@@ -271,7 +271,7 @@ module _ (g : Grid) (Z : Shape g) (gh : Ghost) (I : Inv store gh (view g)) (l : 
       (next_view _ _ _ y.1 p.cell _ c<)
 
   -- Stage 12: the new place becomes the current one.
-  pub sim_12 : (p : Place) (r : Out) → u.stage ≡ SwitchPlace p → do_stage ops l u (view g) (SwitchPlace p) ≡ some r → Sim g l (stage_on t (suc l) u (SwitchPlace p)) r
+  pub sim_12 : (p : Place) (r : Out) → u.stage ≡ SwitchPlace p → do_stage ops l u (view g) (SwitchPlace p) ≡ Some r → Sim g l (stage_on t (suc l) u (SwitchPlace p)) r
   unfolding do_stage stage12m view
   sim_12 p r st e =
       let f = known_found t.index u.oid (need_some_lem _ _ e).0 in
@@ -300,7 +300,7 @@ module _ (g : Grid) (Z : Shape g) (gh : Ghost) (I : Inv store gh (view g)) (l : 
 
   -- the last tuple was the reporter's own
   erased : (p : Place) (m : ℕ) (r : Out) (i : ℕ) → find t.index.oid u.oid ≡ Found i → eqb m u.oid ≡ true → p.cell < 256
-      → do_stage ops l u (view g) (ErasePlace p m) ≡ some r → Sim g l (stage_on t (suc l) u (ErasePlace p m)) r
+      → do_stage ops l u (view g) (ErasePlace p m) ≡ Some r → Sim g l (stage_on t (suc l) u (ErasePlace p m)) r
   unfolding do_stage stage7m stage_on stage7 free_cell lift and_then at_entry pick view
   erased p m r i q z c< e =
       let y = now_erase t.index t.index _ _ u.oid i q at_start_lem in
@@ -313,7 +313,7 @@ module _ (g : Grid) (Z : Shape g) (gh : Ghost) (I : Inv store gh (view g)) (l : 
   -- another object's tuple moved
   moved_other : (p : Place) (m : ℕ) (r : Out) (i j n : ℕ) → find t.index.oid u.oid ≡ Found i → find t.index.oid m ≡ Found j → eqb m u.oid ≡ false
       → sign t.tuples.time p.bucket p.slot ≡ done (lt_z (tup_f t.tuples p.bucket p.slot).time (pos 0)) → encode p ≡ done n → n < 524288 → p.cell < 256
-      → do_stage ops l u (view g) (ErasePlace p m) ≡ some r → Sim g l (stage_on t (suc l) u (ErasePlace p m)) r
+      → do_stage ops l u (view g) (ErasePlace p m) ≡ Some r → Sim g l (stage_on t (suc l) u (ErasePlace p m)) r
   unfolding do_stage stage7m stage_on stage7 free_cell lift and_then at_entry pick view
   moved_other p m r i j n q qm z s e# n< c< e =
       let y = now_erase t.index t.index _ _ u.oid i q at_start_lem in
@@ -326,7 +326,7 @@ module _ (g : Grid) (Z : Shape g) (gh : Ghost) (I : Inv store gh (view g)) (l : 
       (next_view _ _ _ w.3 p.cell ChooseCell c<)
 
   -- Stage 7: the place is erased, and a moved tuple's entry corrected.
-  pub sim_7 : (p : Place) (m : ℕ) (r : Out) → u.stage ≡ ErasePlace p m → do_stage ops l u (view g) (ErasePlace p m) ≡ some r → Sim g l (stage_on t (suc l) u (ErasePlace p m)) r
+  pub sim_7 : (p : Place) (m : ℕ) (r : Out) → u.stage ≡ ErasePlace p m → do_stage ops l u (view g) (ErasePlace p m) ≡ Some r → Sim g l (stage_on t (suc l) u (ErasePlace p m)) r
   unfolding do_stage stage7m pick view
   sim_7 p m r st e =
       let a = need_some_lem _ _ e in

@@ -1,7 +1,7 @@
 -- EACH CARRIER ACCOUNTS FOR AT MOST TWO BUCKETS (document 01): every bucket that is not in the pool is put down to a
 -- known object, to each at most one for its current tuple and one for its former tuple.
 use Rattle.std.specs.Prelude.{◌≡◌, Bool, true, false, List, ℕ, ◌+◌, ◌*◌, ◌<◌, ◌≤◌}
-use Rattle.std.proofs.Math.Option.{Option, some}
+use Rattle.std.specs.Prelude.{Option, Some}
 use Rattle.base.specs.Table.{at}
 use Rattle.layout.specs.Place.{cell_of}
 use Rattle.slots.specs.Tuple.{tuple_in, slot_at}
@@ -27,7 +27,7 @@ Counts g b i k = (i < at g.tables.count b) × ((tuple_in g.tables.tuples (slot_a
 
 -- the update of lane l empties or fills bucket b
 abbrev pub Works : Grid → ℕ → ℕ → Type 0
-Works g l b = at_work g.tables.first (cell_of (updater g l).x (updater g l).y) (updater g l).stage ≡ some b
+Works g l b = at_work g.tables.first (cell_of (updater g l).x (updater g l).y) (updater g l).stage ≡ Some b
 
 -- Why bucket b is put down to object k, and whether for its former tuple: the current tuple of k, which has a positive
 -- time, is in it; or the former one is (before stage 13 its time is positive too); or an update of k empties or fills
@@ -42,7 +42,7 @@ pub data Reason (g : Grid) (b k : ℕ) : Bool → Type 0 where
 pub record TwoEach (g : Grid) : Type 0 where
   pub object : ℕ → ℕ
   pub for_former : ℕ → Bool
-  pub is_known : (b : ℕ) → InUse g b → (e : Entry) × (entry_for g.tables.index (object b) ≡ some e)
+  pub is_known : (b : ℕ) → InUse g b → (e : Entry) × (entry_for g.tables.index (object b) ≡ Some e)
   pub reason : (b : ℕ) → InUse g b → Reason g b (object b) (for_former b)
   pub once : (b b' : ℕ) → InUse g b → InUse g b' → object b ≡ object b' → for_former b ≡ for_former b' → b ≡ b'
   pub few : chained g.tables + awaiting g.updaters ≤ 2 * known g.tables.index.oid

@@ -1,7 +1,7 @@
 -- WHERE EVERY BUCKET IS (document 01: in the store, in one cell's chain, or unlinked and awaiting return), and what
 -- stage 9 of an update takes. All of it is read off the tables and the lanes.
 use Rattle.std.specs.Prelude.{◌≡◌, ◌≢◌, ◌⊎◌, List, [], ◌∷◌, ℕ, ◌<◌}
-use Rattle.std.proofs.Math.Option.{some}
+use Rattle.std.specs.Prelude.{Some}
 use Rattle.base.specs.Numbers.{DONE}
 use Rattle.base.specs.Lists.{In}
 use Rattle.base.specs.Table.{at}
@@ -24,7 +24,7 @@ use Rattle.runs.specs.Sweeps.{query}
 
 -- walking the chain of cell c finds bucket b
 abbrev pub InChain : Tables → ℕ → ℕ → Type 0
-InChain t c b = (c < 256) × ((chain : List ℕ) × (chain_of t.first t.next c ≡ some chain) × In b chain)
+InChain t c b = (c < 256) × ((chain : List ℕ) × (chain_of t.first t.next c ≡ Some chain) × In b chain)
 
 -- the update of lane l has bucket b, off its chain, still to return
 abbrev pub Returns : Grid → ℕ → ℕ → Type 0

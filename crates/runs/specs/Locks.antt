@@ -1,7 +1,7 @@
 -- LOCKS, both ways: a lock is held by the update whose number, 1 + lane, is in it; and an update at a stage that holds
 -- a cell or an object has its number in that lock.
 use Rattle.std.specs.Prelude.{◌≡◌, ◌↔◌, ℕ, suc, ◌<◌}
-use Rattle.std.proofs.Math.Option.{some}
+use Rattle.std.specs.Prelude.{Some}
 use Rattle.base.specs.Lists.{In}
 use Rattle.base.specs.Table.{at}
 use Rattle.index.specs.Index.{Entry, entry_for}
@@ -10,7 +10,7 @@ use Rattle.runs.specs.Quiet.{updater, HoldsCell, held_objects}
 
 -- object k is known, and its lock has the number of lane l
 abbrev pub Locked : Grid → ℕ → ℕ → Type 0
-Locked g k l = (e : Entry) × (entry_for g.tables.index k ≡ some e) × (e.lock ≡ suc l)
+Locked g k l = (e : Entry) × (entry_for g.tables.index k ≡ Some e) × (e.lock ≡ suc l)
 
 -- the update of lane l stands at a stage that holds object k
 abbrev pub HoldsObject : Grid → ℕ → ℕ → Type 0

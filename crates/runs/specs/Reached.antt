@@ -1,7 +1,7 @@
 -- THE OBJECT INDEX (document 01: the directory) is what its search finds, and a tuple lies in the cell of its
 -- coordinates. Read off the tables, at any time.
 use Rattle.std.specs.Prelude.{◌≡◌, ◌≢◌, true, List, ℕ, ◌<◌, ◌≤◌}
-use Rattle.std.proofs.Math.Option.{Option, some}
+use Rattle.std.specs.Prelude.{Option, Some}
 use Rattle.base.specs.Lists.{In}
 use Rattle.base.specs.Outcome.{done}
 use Rattle.base.specs.Table.{at}
@@ -22,7 +22,7 @@ Entered t i = (i < 512) × (at t.index.oid i ≢ 0)
 -- up is said of all entries; and its two numbers are read as places or as none.
 pub record Reached (t : Tables) : Type 0 where
   pub found : (i : ℕ) → Entered t i → search t.index.oid (at t.index.oid i) ≡ Found i
-  pub entry : (i : ℕ) → Entered t i → entry_for t.index (at t.index.oid i) ≡ some (entry_at t.index i)
+  pub entry : (i : ℕ) → Entered t i → entry_for t.index (at t.index.oid i) ≡ Some (entry_at t.index i)
   pub current : (i : ℕ) → Entered t i → (p : Option Place) × (decode (at t.index.current i) ≡ done p)
   pub previous : (i : ℕ) → Entered t i → (p : Option Place) × (decode (at t.index.previous i) ≡ done p)
 
@@ -30,7 +30,7 @@ pub record Reached (t : Tables) : Type 0 where
 -- a bucket that walking a cell finds.
 abbrev pub InTheirCells : Tables → Type 0
 InTheirCells t =
-    (p : Place) (chain : List ℕ) → p.cell < 256 → chain_of t.first t.next p.cell ≡ some chain
+    (p : Place) (chain : List ℕ) → p.cell < 256 → chain_of t.first t.next p.cell ≡ Some chain
     → In p.bucket chain → p.slot < at t.count p.bucket
     → (cell_of (tuple_of t p).x (tuple_of t p).y ≡ p.cell) × (on_grid (tuple_of t p).x (tuple_of t p).y ≡ true)
     × ((tuple_of t p).tag ≤ 9)

@@ -2,7 +2,7 @@
 -- Both by induction along the bytes: the value so far only grows, so a value in range was in range at every digit.
 use mathlib.Core.Path.{◌≡◌, refl, sym, ap, subst, ◌∙◌}
 use mathlib.Core.Bool.{true, false}
-use mathlib.Core.Option.{none, some}
+use Rattle.std.specs.Prelude.{None, Some}
 use mathlib.Core.List.{List, [], ◌∷◌, ◌++◌}
 use Prim.Native.Nat.{ℕ, ◌+◌, ◌*◌, ◌-◌, ◌<◌, ◌≤◌}
 use native.Mathlib.Omega.{arith}
@@ -37,7 +37,7 @@ pub record Begins (bs : List ℕ) (v : ℕ) (f : Front) : Type 0 where
   pub value : value_from v front ≡ f.value
   pub small : f.value ≤ largest
 
-on_sound : (bs : List ℕ) (v : ℕ) {f : Front} → v ≤ largest → digits_on v bs ≡ some f → Begins bs v f
+on_sound : (bs : List ℕ) (v : ℕ) {f : Front} → v ≤ largest → digits_on v bs ≡ Some f → Begins bs v f
 unfolding digits_on value_from pick
 on_sound [] v {f} h e =
     let q : front_of v [] ≡ f = cc in
@@ -49,9 +49,9 @@ on_sound (b ∷ bs) v {f} h e =
     let d = digit_in b t in
     let r = on_sound bs (10 * v + (b - 48)) (leb-true (10 * v + (b - 48)) largest u) (rw (t, u) at e) in
     record { front = b ∷ r.front; parts = ap (λ (l : List ℕ). b ∷ l) r.parts; digits = more d.0 d.1 r.digits; value = r.value; small = r.small })
-    (λ u. clash (let z : none ≡ some f = rw (t, u) at e in cc)))
+    (λ u. clash (let z : None ≡ Some f = rw (t, u) at e in cc)))
     (λ t.
-    let z : some (front_of v (b ∷ bs)) ≡ some f = rw t at e in
+    let z : Some (front_of v (b ∷ bs)) ≡ Some f = rw t at e in
     let q : front_of v (b ∷ bs) ≡ f = cc in
     record { front = []; parts = ap (λ (g : Front). g.rest) q; digits = no-digits; value = ap (λ (g : Front). g.value) q; small = subst (λ (g : Front). g.value ≤ largest) q h })
 
@@ -66,14 +66,14 @@ zero_numeral : (b : ℕ) → b ≡ 48 → Numeral (b ∷ []) 0
 unfolding value_from
 zero_numeral b e = record { digits = more {b = b} (omega arith) (omega arith) no-digits; some = omega arith; plain = λ _. refl; value = omega arith; small = omega arith }
 
-pub number_sound : (bs : List ℕ) {f : Front} → number bs ≡ some f → Fronted bs f
+pub number_sound : (bs : List ℕ) {f : Front} → number bs ≡ Some f → Fronted bs f
 unfolding number value_from pick
 number_sound [] {f} e = clash (cc)
 number_sound (b ∷ bs) {f} e =
     by_test (is_digit b)
     (λ t. by_test (eqb b 48)
     (λ u.
-    let z : some (front_of 0 bs) ≡ some f = rw (t, u) at e in
+    let z : Some (front_of 0 bs) ≡ Some f = rw (t, u) at e in
     let q : front_of 0 bs ≡ f = cc in
     record { front = b ∷ []; parts = ap (λ (g : Front). b ∷ g.rest) q; numeral = subst (λ (g : Front). Numeral (b ∷ []) g.value) q (zero_numeral b (eqb-true b 48 u)) })
     (λ u.
@@ -85,7 +85,7 @@ number_sound (b ∷ bs) {f} e =
       parts = ap (λ (l : List ℕ). b ∷ l) r.parts;
       numeral = record { digits = more d.0 d.1 r.digits; some = omega arith; plain = λ (p : b ≡ 48). absurd (eqb-false b 48 u p); value = ap (λ (k : ℕ). value_from k r.front) w ∙ r.value; small = r.small };
     }))
-    (λ t. clash (let z : none ≡ some f = rw t at e in cc))
+    (λ t. clash (let z : None ≡ Some f = rw t at e in cc))
 
 -- ---- a numeral is read off
 
@@ -99,12 +99,12 @@ unfolding value_from
 value_up [] v = omega arith
 value_up (b ∷ ds) v = omega (arith, value_up ds (10 * v + (b - 48)))
 
-on_end : {rest : List ℕ} (v : ℕ) → Ends rest → digits_on v rest ≡ some (front_of v rest)
+on_end : {rest : List ℕ} (v : ℕ) → Ends rest → digits_on v rest ≡ Some (front_of v rest)
 unfolding digits_on pick
 on_end v nothing = refl
 on_end v comma = rw digit_comma
 
-on_complete : {ds rest : List ℕ} → Digits ds → Ends rest → (v : ℕ) → value_from v ds ≤ largest → digits_on v (ds ++ rest) ≡ some (front_of (value_from v ds) rest)
+on_complete : {ds rest : List ℕ} → Digits ds → Ends rest → (v : ℕ) → value_from v ds ≤ largest → digits_on v (ds ++ rest) ≡ Some (front_of (value_from v ds) rest)
 unfolding digits_on value_from pick
 on_complete no-digits s v h = on_end v s
 on_complete (more {b} {bs} lo hi ds) s v h =
@@ -114,7 +114,7 @@ alone : (b : ℕ) (ds : List ℕ) → length (b ∷ ds) ≡ 1 → ds ≡ []
 alone b [] e = refl
 alone b (x ∷ ds) e = absurd (omega arith)
 
-complete : (ds : List ℕ) {rest : List ℕ} {n : ℕ} → Ends rest → Digits ds → 0 < length ds → ((b : ℕ) (bs : List ℕ) → ds ≡ b ∷ bs → b ≡ 48 → bs ≡ []) → value_from 0 ds ≡ n → n ≤ largest → number (ds ++ rest) ≡ some (front_of n rest)
+complete : (ds : List ℕ) {rest : List ℕ} {n : ℕ} → Ends rest → Digits ds → 0 < length ds → ((b : ℕ) (bs : List ℕ) → ds ≡ b ∷ bs → b ≡ 48 → bs ≡ []) → value_from 0 ds ≡ n → n ≤ largest → number (ds ++ rest) ≡ Some (front_of n rest)
 unfolding number value_from pick
 complete [] s d p g e h = absurd (omega arith)
 complete (b ∷ ds) {rest} {n} s (more lo hi d) p g e h =
@@ -126,8 +126,8 @@ complete (b ∷ ds) {rest} {n} s (more lo hi d) p g e h =
     (λ z.
     let w : 10 * 0 + (b - 48) ≡ b - 48 = omega arith in
     let k : value_from (b - 48) ds ≡ n = rw w at e in
-    rw (digit_yes b lo hi, ne_eqb b 48 z) (on_complete d s (b - 48) (subst (λ (m : ℕ). m ≤ largest) (sym k) h) ∙ ap (λ (m : ℕ). some (front_of m rest)) k))
+    rw (digit_yes b lo hi, ne_eqb b 48 z) (on_complete d s (b - 48) (subst (λ (m : ℕ). m ≤ largest) (sym k) h) ∙ ap (λ (m : ℕ). Some (front_of m rest)) k))
 
-pub number_complete : {ds rest : List ℕ} {n : ℕ} → Numeral ds n → Ends rest → number (ds ++ rest) ≡ some (front_of n rest)
+pub number_complete : {ds rest : List ℕ} {n : ℕ} → Numeral ds n → Ends rest → number (ds ++ rest) ≡ Some (front_of n rest)
 number_complete {ds} {rest} {n} m s =
     complete ds s m.digits m.some (λ b bs e z. alone b bs (subst (λ (l : List ℕ). length l ≡ 1) e (m.plain (subst (λ (l : List ℕ). at l 0 ≡ 48) (sym e) z)))) m.value m.small

@@ -1,78 +1,46 @@
 // Numbers in a line: decimal, at most 4,294,967,295, no sign, no needless leading zero.
-ghost use Rattle.std.specs.Prelude.{◌≡◌, drop};
-ghost use Rattle.script.specs.Parse.{digits_on, number as Parse·number, field, read_tells, number_says};
+#![tactic(auto, unfolding(crate::specs::Parse::is_digit, crate::specs::Parse::digits_on, crate::specs::Parse::number, crate::specs::Parse::field, base::specs::Outcome::pick))]
 
-// A number and the place of the byte behind it.
-#[derive(Clone, Copy)]
-pub struct Numeral {
+ghost use Rattle.std.specs.Prelude.{◌≡◌, option_map};
+ghost use Rattle.script.specs.Parse.{digits_on, number, field, front_at};
+
+// A number, and the bytes behind it.
+#[derive(Clone, Copy, Debug, PartialEq, Eq)]
+pub struct Numeral<'a> {
     pub value: u32,
-    pub next: usize,
+    pub rest: &'a [u8],
 }
 
-// What stands at a place of a line.
-#[derive(Clone, Copy)]
-pub enum Number {
-    Missing,
-    Read(Numeral),
-}
-
-// Reads on, from a place on, behind digits whose value is known, up to a byte that is no digit.
-fn read_digits(line: &[u8], from: usize, value: u32) -> Number
-    ensures { read_tells (digits_on value (drop from line.now)) ≡ number_says line.now result }
+// Reads on, behind digits whose value is known, up to a byte that is no digit.
+fn read_digits(bytes: &[u8], value: u32) -> Option<Numeral<'_>>
+    ensures { option_map front_at result ≡ digits_on value bytes.now }
 {
-    let mut v = value;
-    let mut i = from;
-    while i < line.len() {
-        let b = line[i];
-        if b < b'0' {
-            return Number::Read(Numeral { value: v, next: i });
-        }
-        if b > b'9' {
-            return Number::Read(Numeral { value: v, next: i });
-        }
-        let w = 10 * v as u64 + (b - b'0') as u64;
-        if w > 4294967295 {
-            return Number::Missing;
-        }
-        v = w as u32;
-        i += 1;
+    let mut value = value;
+    let mut rest = bytes;
+    while let [b @ b'0'..=b'9', tail @ ..] = rest {
+        value = value.checked_mul(10)?.checked_add(u32::from(b - b'0'))?;
+        rest = tail;
     }
-    Number::Read(Numeral { value: v, next: i })
+    Some(Numeral { value, rest })
 }
 
-// Reads the number that begins at a place. One that begins with a 0 is that 0 alone.
-fn read_number(line: &[u8], at: usize) -> Number
-    ensures { read_tells (Parse·number (drop at line.now)) ≡ number_says line.now result }
+// Reads the number in front. One that begins with a 0 is that 0 alone.
+fn read_number(bytes: &[u8]) -> Option<Numeral<'_>>
+    ensures { option_map front_at result ≡ number bytes.now }
 {
-    if at >= line.len() {
-        return Number::Missing;
+    match bytes {
+        [b'0', rest @ ..] => Some(Numeral { value: 0, rest }),
+        [b @ b'1'..=b'9', rest @ ..] => read_digits(rest, u32::from(b - b'0')),
+        _ => None,
     }
-    let first = line[at];
-    if first < b'0' {
-        return Number::Missing;
-    }
-    if first > b'9' {
-        return Number::Missing;
-    }
-    if first == b'0' {
-        return Number::Read(Numeral {
-            value: 0,
-            next: at + 1,
-        });
-    }
-    read_digits(line, at + 1, (first - b'0') as u32)
 }
 
 // Reads a comma and the number behind it.
-pub fn read_field(line: &[u8], at: usize) -> Number
-    ensures { read_tells (field (drop at line.now)) ≡ number_says line.now result }
+pub fn read_field(bytes: &[u8]) -> Option<Numeral<'_>>
+    ensures { option_map front_at result ≡ field bytes.now }
 {
-    if at >= line.len() {
-        return Number::Missing;
+    match bytes {
+        [b',', rest @ ..] => read_number(rest),
+        _ => None,
     }
-    let b = line[at];
-    if b != b',' {
-        return Number::Missing;
-    }
-    read_number(line, at + 1)
 }

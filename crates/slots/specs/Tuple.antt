@@ -1,19 +1,14 @@
 -- Tuples: five tables, slot s of bucket b at 4b + s. A tuple is read, copied and written whole.
 -- The tag is the object's load mark (document 02), as it was reported with the place; no operation here looks at it.
-use Rattle.std.specs.Prelude.{Bool, true, false, not, ◌||◌, List, [], ◌∷◌, ℕ, ◌+◌, ◌*◌, ltb, ℤ, pos, get_or, set}
+use Rattle.std.specs.Prelude.{Bool, true, false, not, ◌||◌, List, ℕ, ◌+◌, ◌*◌, ltb, ℤ, pos, get_or, set}
 use Rattle.words.specs.Map.{TUPLE-XS, TUPLE-YS, TUPLE-TAGS}
 use Rattle.words.specs.Part.{part}
-use Rattle.base.specs.Numbers.{DONE, CORRUPT}
-use Rattle.base.specs.Outcome.{Told, says, Outcome, corrupt, done, need, one}
+use Rattle.base.specs.Outcome.{Outcome, corrupt, done, need}
 use Rattle.base.specs.Table.{at}
 use Rattle.slots.specs.Stamp.{stamp_of, current, deleted, stamp_range}
 use Rattle.slots.specs.declared.stamp.Stamp.{Stamp}
 use Rattle.slots.specs.declared.stamp.Stamp.TheVariants.{Never, Current, Deleted}
 use Rattle.slots.specs.declared.tuple.Seen.{Seen}
-use Rattle.slots.specs.declared.tuple.Sign.{Sign}
-use Rattle.slots.specs.declared.tuple.Sign.TheVariants.{Corrupt as SignCorrupt, Current as SignCurrent, Deleted as SignDeleted}
-use Rattle.slots.specs.declared.tuple.TupleRead.{TupleRead}
-use Rattle.slots.specs.declared.tuple.TupleRead.TheVariants.{Corrupt, At}
 
 pub record Tuples : Type 0 where
   pub oid : List ℕ
@@ -65,27 +60,19 @@ overwrite d b s k x y m t = need_slot b s (need (stamp_range t) (done (put_tuple
 unfoldable pub delete : List ℤ → ℕ → ℕ → ℕ → Outcome (List ℤ)
 delete times b s t = need_slot b s (need (stamp_range t) (done (set times (slot_at b s) (deleted t))))
 
+-- a tuple with the sign and the magnitude of its stamp
+abbrev pub seen_as : Tuple → Bool → ℕ → Seen
+seen_as t d n = record { oid = t.oid; x = t.x; y = t.y; tag = t.tag; deleted = d; time = n }
+
 -- a tuple with its stamp read; corrupt where that is none
 unfoldable pub seen : Tuple → Stamp → Outcome Seen
 seen t Never = corrupt
-seen t (Current n) = done (record { oid = t.oid; x = t.x; y = t.y; tag = t.tag; deleted = false; time = n })
-seen t (Deleted n) = done (record { oid = t.oid; x = t.x; y = t.y; tag = t.tag; deleted = true; time = n })
+seen t (Current n) = done (seen_as t false n)
+seen t (Deleted n) = done (seen_as t true n)
 
 -- Read the tuple at a slot.
 unfoldable pub read : Tuples → ℕ → ℕ → Outcome Seen
 read d b s = need_slot b s (seen (tuple_in d (slot_at b s)) (stamp_of (tuple_in d (slot_at b s)).time))
-
-abbrev pub bit : Bool → ℕ
-bit true = 1
-bit false = 0
-
-abbrev pub seen_values : Seen → List ℕ
-seen_values t = t.oid ∷ t.x ∷ t.y ∷ t.tag ∷ bit t.deleted ∷ t.time ∷ []
-
--- broken tables: 12; else 0 and object, x, y, tag, 1 if deleted, the stamp's magnitude
-abbrev pub tuple_read_says : TupleRead → Told
-tuple_read_says Corrupt = says CORRUPT []
-tuple_read_says (At t) = says DONE (seen_values t)
 
 -- What a query with stamp t may list: a tuple that is current, or was deleted with a stamp above t.
 unfoldable pub seen_by : ℕ → Seen → Bool
@@ -99,12 +86,3 @@ sign_of (Deleted n) = done true
 
 unfoldable pub sign : List ℤ → ℕ → ℕ → Outcome Bool
 sign times b s = need_slot b s (sign_of (stamp_of (get_or times (slot_at b s) (pos 0))))
-
-abbrev pub sign_values : Bool → List ℕ
-sign_values d = one (bit d)
-
--- broken tables: 12; else 0, and 1 if the tuple is deleted
-abbrev pub sign_says : Sign → Told
-sign_says SignCorrupt = says CORRUPT []
-sign_says SignCurrent = says DONE (one 0)
-sign_says SignDeleted = says DONE (one 1)

@@ -1,17 +1,26 @@
 // Tuples: read, copied and written whole.
 ghost use Rattle.std.specs.Prelude.{◌≡◌, ◌<◌, List, ℤ, length};
-ghost use Rattle.base.specs.Outcome.{tells};
+ghost use Rattle.base.specs.Answer.{outcome_of};
+ghost use Rattle.base.specs.Outcome.{done};
 ghost use Rattle.base.specs.Promise.{Changes};
-ghost use Rattle.slots.specs.Tuple.{tuples_at, put_words, copy, overwrite, delete, read, seen_values, seen_by, tuple_read_says, sign, sign_values, sign_says};
-ghost use Rattle.slots.specs.Stamp.{stamp_range};
-ghost use Rattle.words.specs.Map.{TUPLES-SIZE, TIMES};
+ghost use Rattle.slots.specs.Tuple.{tuples_at, put_words, slot_at, need_slot, copy, overwrite, delete, read, seen_as, seen_by, sign, tuple_in};
+ghost use Rattle.words.specs.Map.{TUPLES-SIZE};
 
-use crate::stamp::{Stamp, current_stamp, deleted_stamp, read_stamp};
-use base::{BUCKET_COUNT, BUCKET_SLOTS, Change, LAST_STAMP};
-use words::{TUPLE_TAGS, TUPLE_XS, TUPLE_YS};
+use crate::stamp::{Stamp, current_stamp, deleted_stamp, in_range, read_stamp};
+use base::{BUCKET_COUNT, BUCKET_SLOTS, Corrupt};
+use words::{TIMES, TUPLE_TAGS, TUPLE_XS, TUPLE_YS};
 
-// A tuple with its stamp taken apart. The tag is the object's load mark (document 02), as it was reported with the place.
-#[derive(Clone, Copy)]
+// What is reported of an object: where it stands, and its tag, the object's load mark (document 02).
+#[derive(Clone, Copy, Debug, PartialEq, Eq)]
+pub struct Report {
+    pub oid: u32,
+    pub x: u32,
+    pub y: u32,
+    pub tag: u32,
+}
+
+// A tuple with its stamp taken apart into sign and magnitude. The tag is the one that was reported with the place.
+#[derive(Clone, Copy, Debug, PartialEq, Eq)]
 pub struct Seen {
     pub oid: u32,
     pub x: u32,
@@ -21,196 +30,139 @@ pub struct Seen {
     pub time: u32,
 }
 
-#[derive(Clone, Copy)]
-pub enum TupleRead {
-    Corrupt,
-    At(Seen),
-}
-
-// Whether a tuple is current or logically deleted.
-#[derive(Clone, Copy)]
-pub enum Sign {
-    Corrupt,
-    Current,
-    Deleted,
-}
-
-// Whether a stamp may have this magnitude.
-pub fn in_range(time: u32) -> bool
-    ensures { result ≡ stamp_range time }
+// Where the tuple at a slot of a bucket stands in each column. A bucket and a slot stay two numbers, as in a place:
+// a struct of the two would be built at each call only to be taken apart here.
+fn slot_index(bucket: u32, slot: u32) -> Result<usize, Corrupt>
+    ensures { outcome_of result ≡ need_slot bucket slot (done (slot_at bucket slot)) }
 {
-    if time == 0 {
-        return false;
+    if bucket >= BUCKET_COUNT || slot >= BUCKET_SLOTS {
+        return Err(Corrupt);
     }
-    if time > LAST_STAMP {
-        return false;
+    Ok((BUCKET_SLOTS * bucket + slot) as usize)
+}
+
+// The tuple at an entry, with a stamp of this sign and magnitude.
+fn seen_at(tuples: &[u32], at: usize, deleted: bool, time: u32) -> Seen
+    requires { (length tuples.now ≡ TUPLES-SIZE) × (at < 2048) }
+    ensures { (ts : List ℤ) → result ≡ seen_as (tuple_in (tuples_at tuples.now ts) at) deleted time }
+{
+    Seen {
+        oid: tuples[at],
+        x: tuples[TUPLE_XS + at],
+        y: tuples[TUPLE_YS + at],
+        tag: tuples[TUPLE_TAGS + at],
+        deleted,
+        time,
     }
-    true
 }
 
 // Reads the tuple at a slot. Objects, x, y and tags stand one after the other in one list, a column each.
-pub fn read_tuple(tuples: &[u32], times: &[i32], bucket: u32, slot: u32) -> TupleRead
-    requires { (length tuples.now ≡ TUPLES-SIZE) × (length times.now ≡ TIMES) }
-    ensures { tells seen_values (read (tuples_at tuples.now times.now) bucket slot) ≡ tuple_read_says result }
+pub fn read_tuple(
+    tuples: &[u32],
+    times: &[i32; TIMES],
+    bucket: u32,
+    slot: u32,
+) -> Result<Seen, Corrupt>
+    requires { length tuples.now ≡ TUPLES-SIZE }
+    ensures { outcome_of result ≡ read (tuples_at tuples.now times.now) bucket slot }
 {
-    if bucket >= BUCKET_COUNT {
-        return TupleRead::Corrupt;
-    }
-    if slot >= BUCKET_SLOTS {
-        return TupleRead::Corrupt;
-    }
-    let i = (BUCKET_SLOTS * bucket + slot) as usize;
-    let s = times[i];
-    let stamp = read_stamp(s);
-    match stamp {
-        Stamp::Never => TupleRead::Corrupt,
-        Stamp::Current(t) => TupleRead::At(Seen {
-            oid: tuples[i],
-            x: tuples[TUPLE_XS + i],
-            y: tuples[TUPLE_YS + i],
-            tag: tuples[TUPLE_TAGS + i],
-            deleted: false,
-            time: t,
-        }),
-        Stamp::Deleted(t) => TupleRead::At(Seen {
-            oid: tuples[i],
-            x: tuples[TUPLE_XS + i],
-            y: tuples[TUPLE_YS + i],
-            tag: tuples[TUPLE_TAGS + i],
-            deleted: true,
-            time: t,
-        }),
+    let i = slot_index(bucket, slot)?;
+    match read_stamp(times[i]) {
+        Stamp::Never => Err(Corrupt),
+        Stamp::Current(time) => Ok(seen_at(tuples, i, false, time)),
+        Stamp::Deleted(time) => Ok(seen_at(tuples, i, true, time)),
     }
 }
 
-// Writes object, x, y and tag over those at an entry.
-fn put_tuple(tuples: &mut [u32], at: usize, oid: u32, x: u32, y: u32, tag: u32)
+// Writes what is reported over object, x, y and tag at an entry.
+fn put_tuple(tuples: &mut [u32], at: usize, r: Report)
     requires { (length tuples.old ≡ TUPLES-SIZE) × (at < 2048) }
-    ensures { (ts : List ℤ) → put_words (tuples_at tuples.old ts) at oid x y tag ≡ tuples_at tuples.new ts }
+    ensures { (ts : List ℤ) → put_words (tuples_at tuples.old ts) at r.oid r.x r.y r.tag ≡ tuples_at tuples.new ts }
 {
-    tuples[at] = oid;
-    tuples[TUPLE_XS + at] = x;
-    tuples[TUPLE_YS + at] = y;
-    tuples[TUPLE_TAGS + at] = tag;
+    tuples[at] = r.oid;
+    tuples[TUPLE_XS + at] = r.x;
+    tuples[TUPLE_YS + at] = r.y;
+    tuples[TUPLE_TAGS + at] = r.tag;
 }
 
 // Copies a tuple over another.
 pub fn copy_tuple(
     tuples: &mut [u32],
-    times: &mut [i32],
+    times: &mut [i32; TIMES],
     bucket: u32,
     slot: u32,
     bucket2: u32,
     slot2: u32,
-) -> Change
-    requires { (length tuples.old ≡ TUPLES-SIZE) × (length times.old ≡ TIMES) }
+) -> Result<(), Corrupt>
+    requires { length tuples.old ≡ TUPLES-SIZE }
     ensures { Changes (tuples_at tuples.old times.old) (λ d. copy d bucket slot bucket2 slot2) result (tuples_at tuples.new times.new) }
 {
-    if bucket >= BUCKET_COUNT {
-        return Change::Corrupt;
-    }
-    if slot >= BUCKET_SLOTS {
-        return Change::Corrupt;
-    }
-    if bucket2 >= BUCKET_COUNT {
-        return Change::Corrupt;
-    }
-    if slot2 >= BUCKET_SLOTS {
-        return Change::Corrupt;
-    }
-    let from = (BUCKET_SLOTS * bucket + slot) as usize;
-    let to = (BUCKET_SLOTS * bucket2 + slot2) as usize;
-    let oid = tuples[from];
-    let x = tuples[TUPLE_XS + from];
-    let y = tuples[TUPLE_YS + from];
-    let tag = tuples[TUPLE_TAGS + from];
-    put_tuple(tuples, to, oid, x, y, tag);
+    let from = slot_index(bucket, slot)?;
+    let to = slot_index(bucket2, slot2)?;
+    let tuple = Report {
+        oid: tuples[from],
+        x: tuples[TUPLE_XS + from],
+        y: tuples[TUPLE_YS + from],
+        tag: tuples[TUPLE_TAGS + from],
+    };
+    put_tuple(tuples, to, tuple);
     times[to] = times[from];
-    Change::Done
+    Ok(())
 }
 
 // Writes a current tuple over the one at a slot.
 pub fn overwrite_tuple(
     tuples: &mut [u32],
-    times: &mut [i32],
+    times: &mut [i32; TIMES],
     bucket: u32,
     slot: u32,
-    oid: u32,
-    x: u32,
-    y: u32,
-    tag: u32,
+    r: Report,
     time: u32,
-) -> Change
-    requires { (length tuples.old ≡ TUPLES-SIZE) × (length times.old ≡ TIMES) }
-    ensures { Changes (tuples_at tuples.old times.old) (λ d. overwrite d bucket slot oid x y tag time) result (tuples_at tuples.new times.new) }
+) -> Result<(), Corrupt>
+    requires { length tuples.old ≡ TUPLES-SIZE }
+    ensures { Changes (tuples_at tuples.old times.old) (λ d. overwrite d bucket slot r.oid r.x r.y r.tag time) result (tuples_at tuples.new times.new) }
 {
-    if bucket >= BUCKET_COUNT {
-        return Change::Corrupt;
-    }
-    if slot >= BUCKET_SLOTS {
-        return Change::Corrupt;
-    }
+    let i = slot_index(bucket, slot)?;
     if !in_range(time) {
-        return Change::Corrupt;
+        return Err(Corrupt);
     }
-    let i = (BUCKET_SLOTS * bucket + slot) as usize;
-    let s = current_stamp(time);
-    put_tuple(tuples, i, oid, x, y, tag);
-    times[i] = s;
-    Change::Done
+    put_tuple(tuples, i, r);
+    times[i] = current_stamp(time);
+    Ok(())
 }
 
 // Logically deletes a tuple: its stamp becomes the negative of the one given.
-pub fn delete_tuple(times: &mut [i32], bucket: u32, slot: u32, time: u32) -> Change
-    requires { length times.old ≡ TIMES }
+pub fn delete_tuple(
+    times: &mut [i32; TIMES],
+    bucket: u32,
+    slot: u32,
+    time: u32,
+) -> Result<(), Corrupt>
     ensures { Changes times.old (λ l. delete l bucket slot time) result times.new }
 {
-    if bucket >= BUCKET_COUNT {
-        return Change::Corrupt;
-    }
-    if slot >= BUCKET_SLOTS {
-        return Change::Corrupt;
-    }
+    let i = slot_index(bucket, slot)?;
     if !in_range(time) {
-        return Change::Corrupt;
+        return Err(Corrupt);
     }
-    let i = (BUCKET_SLOTS * bucket + slot) as usize;
-    let s = deleted_stamp(time);
-    times[i] = s;
-    Change::Done
+    times[i] = deleted_stamp(time);
+    Ok(())
 }
 
 // Whether a query that drew the stamp since may list a tuple: it is current, or its stamp's magnitude is above.
-#[tactic(auto, unfolding(crate::specs::Tuple::seen_by))]
 pub fn is_seen(t: Seen, since: u32) -> bool
     ensures { result ≡ seen_by since t }
 {
-    if !t.deleted {
-        return true;
-    }
-    if t.time <= since {
-        return false;
-    }
-    true
+    !t.deleted || t.time > since
 }
 
 // Whether the tuple at a slot is deleted, by its stamp's sign.
-pub fn read_sign(times: &[i32], bucket: u32, slot: u32) -> Sign
-    requires { length times.now ≡ TIMES }
-    ensures { tells sign_values (sign times.now bucket slot) ≡ sign_says result }
+pub fn read_sign(times: &[i32; TIMES], bucket: u32, slot: u32) -> Result<bool, Corrupt>
+    ensures { outcome_of result ≡ sign times.now bucket slot }
 {
-    if bucket >= BUCKET_COUNT {
-        return Sign::Corrupt;
-    }
-    if slot >= BUCKET_SLOTS {
-        return Sign::Corrupt;
-    }
-    let i = (BUCKET_SLOTS * bucket + slot) as usize;
-    let s = times[i];
-    let stamp = read_stamp(s);
-    match stamp {
-        Stamp::Never => Sign::Corrupt,
-        Stamp::Current(_) => Sign::Current,
-        Stamp::Deleted(_) => Sign::Deleted,
+    let i = slot_index(bucket, slot)?;
+    match read_stamp(times[i]) {
+        Stamp::Never => Err(Corrupt),
+        Stamp::Current(_) => Ok(false),
+        Stamp::Deleted(_) => Ok(true),
     }
 }

@@ -2,7 +2,7 @@
 -- draw and what comes next. What is said of a stage by its kind alone is read off its row, here and in the crates
 -- above.
 use Rattle.std.specs.Prelude.{Bool, true, false, List, [], ◌∷◌, ℕ}
-use Rattle.std.proofs.Math.Option.{Option, none, some}
+use Rattle.std.specs.Prelude.{Option, None, Some}
 use Rattle.stage.specs.declared.Stage.{Stage}
 use Rattle.stage.specs.declared.Stage.TheVariants.{Idle, TakeObject, LockCell, LookLast, CopyLast, LowerCount, ReturnBucket, ErasePlace, ChooseCell, MakeRoom, WriteTuple, RaiseCount, SwitchPlace, DeleteOld, ReleaseObject}
 
@@ -55,33 +55,33 @@ row_of n o m c f b u l d s = record {
 
 -- number, own lock, object moved, cell held, fills, bucket used, unlinked, late, draws, next
 abbrev pub row : Stage → Row
-row Idle = row_of 0 false none no_cell_held false no_bucket none false 0 []
-row TakeObject = row_of 1 false none no_cell_held false no_bucket none false 2 (2 ∷ 8 ∷ [])
-row (LockCell p) = row_of 2 true none no_cell_held false no_bucket none false 2 (3 ∷ [])
-row (LookLast p) = row_of 3 true none (cell_at p.cell) false no_bucket none false 2 (4 ∷ 1 ∷ [])
-row (CopyLast p m) = row_of 4 true (some m) (cell_at p.cell) false no_bucket none false 2 (5 ∷ [])
-row (LowerCount p m) = row_of 5 true (some m) (cell_at p.cell) false first_bucket none false 2 (6 ∷ 7 ∷ [])
-row (ReturnBucket p m b) = row_of 6 true (some m) (cell_at p.cell) false (bucket_at b) (some b) false 2 (7 ∷ [])
-row (ErasePlace p m) = row_of 7 true (some m) (cell_at p.cell) false no_bucket none false 2 (8 ∷ [])
-row ChooseCell = row_of 8 true none no_cell_held false no_bucket none false 2 (9 ∷ 14 ∷ [])
-row MakeRoom = row_of 9 true none goal_cell false no_bucket none false 2 (10 ∷ [])
-row WriteTuple = row_of 10 true none goal_cell true first_bucket none false 2 (11 ∷ [])
-row (RaiseCount p) = row_of 11 true none goal_cell true first_bucket none false 1 (12 ∷ [])
-row (SwitchPlace p) = row_of 12 true none goal_cell false (bucket_at p.bucket) none false 1 (13 ∷ 14 ∷ [])
-row (DeleteOld p) = row_of 13 true none no_cell_held false no_bucket none true 1 (14 ∷ [])
-row ReleaseObject = row_of 14 true none no_cell_held false no_bucket none true 0 (0 ∷ [])
+row Idle = row_of 0 false None no_cell_held false no_bucket None false 0 []
+row TakeObject = row_of 1 false None no_cell_held false no_bucket None false 2 (2 ∷ 8 ∷ [])
+row (LockCell p) = row_of 2 true None no_cell_held false no_bucket None false 2 (3 ∷ [])
+row (LookLast p) = row_of 3 true None (cell_at p.cell) false no_bucket None false 2 (4 ∷ 1 ∷ [])
+row (CopyLast p m) = row_of 4 true (Some m) (cell_at p.cell) false no_bucket None false 2 (5 ∷ [])
+row (LowerCount p m) = row_of 5 true (Some m) (cell_at p.cell) false first_bucket None false 2 (6 ∷ 7 ∷ [])
+row (ReturnBucket p m b) = row_of 6 true (Some m) (cell_at p.cell) false (bucket_at b) (Some b) false 2 (7 ∷ [])
+row (ErasePlace p m) = row_of 7 true (Some m) (cell_at p.cell) false no_bucket None false 2 (8 ∷ [])
+row ChooseCell = row_of 8 true None no_cell_held false no_bucket None false 2 (9 ∷ 14 ∷ [])
+row MakeRoom = row_of 9 true None goal_cell false no_bucket None false 2 (10 ∷ [])
+row WriteTuple = row_of 10 true None goal_cell true first_bucket None false 2 (11 ∷ [])
+row (RaiseCount p) = row_of 11 true None goal_cell true first_bucket None false 1 (12 ∷ [])
+row (SwitchPlace p) = row_of 12 true None goal_cell false (bucket_at p.bucket) None false 1 (13 ∷ 14 ∷ [])
+row (DeleteOld p) = row_of 13 true None no_cell_held false no_bucket None true 1 (14 ∷ [])
+row ReleaseObject = row_of 14 true None no_cell_held false no_bucket None true 0 (0 ∷ [])
 
 -- ---- what is read off a row
 
 -- there is something
 abbrev pub given : Option ℕ → Bool
-given none = false
-given (some n) = true
+given None = false
+given (Some n) = true
 
 -- what there is, or else k
 abbrev pub or_else : ℕ → Option ℕ → ℕ
-or_else k none = k
-or_else k (some n) = n
+or_else k None = k
+or_else k (Some n) = n
 
 abbrev pub holds_cell : CellHeld → Bool
 holds_cell no_cell_held = false
@@ -96,18 +96,18 @@ cell_or c (cell_at c') = c'
 
 -- the same, or none
 abbrev pub cell_held_by : ℕ → CellHeld → Option ℕ
-cell_held_by c no_cell_held = none
-cell_held_by c goal_cell = some c
-cell_held_by c (cell_at c') = some c'
+cell_held_by c no_cell_held = None
+cell_held_by c goal_cell = Some c
+cell_held_by c (cell_at c') = Some c'
 
 -- the bucket used, f being the first one of the cell held
 abbrev pub bucket_by : ℕ → BucketUsed → Option ℕ
-bucket_by f no_bucket = none
-bucket_by f first_bucket = some f
-bucket_by f (bucket_at b) = some b
+bucket_by f no_bucket = None
+bucket_by f first_bucket = Some f
+bucket_by f (bucket_at b) = Some b
 
 -- the objects whose locks are held, k the update's own
 abbrev pub objects_by : ℕ → Bool → Option ℕ → List ℕ
 objects_by k false m = []
-objects_by k true none = k ∷ []
-objects_by k true (some m) = k ∷ m ∷ []
+objects_by k true None = k ∷ []
+objects_by k true (Some m) = k ∷ m ∷ []

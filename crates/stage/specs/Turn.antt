@@ -1,39 +1,26 @@
 -- How a step of an update ends, in document 01's numbers, and the words that the stages are written in.
 use Rattle.std.specs.Prelude.{Bool, true, false, List, ℕ, ◌+◌, ltb}
-use Rattle.std.proofs.Math.Option.{none, some}
+use Rattle.std.specs.Prelude.{None, Some, Result, Ok, Err}
 use Rattle.base.specs.Numbers.{DONE, BLOCKED, RESTARTED, FINISHED, CORRUPT}
 use Rattle.base.specs.Outcome.{Outcome, corrupt, blocked, done, need, and_then}
 use Rattle.base.specs.Step.{Said, said, Step, step_of}
-use Rattle.base.specs.declared.Attempt.{Attempt}
-use Rattle.base.specs.declared.Attempt.TheVariants.{Corrupt as AttemptCorrupt, Blocked as AttemptBlocked, Done as AttemptDone}
-use Rattle.base.specs.declared.Change.{Change}
-use Rattle.base.specs.declared.Change.TheVariants.{Corrupt as ChangeCorrupt, Done as ChangeDone}
+use Rattle.base.specs.declared.Stop.{Stop}
+use Rattle.base.specs.declared.Stop.TheVariants.{Corrupt, Blocked}
 use Rattle.locks.specs.Lock.{take_lock}
 use Rattle.index.specs.declared.search.Search.{Search}
 use Rattle.index.specs.declared.search.Search.TheVariants.{Found, Empty}
 use Rattle.stage.specs.declared.Stage.{Stage}
 use Rattle.stage.specs.declared.Stage.TheVariants.{Idle, TakeObject, LockCell, LookLast, CopyLast, LowerCount, ReturnBucket, ErasePlace, ChooseCell, MakeRoom, WriteTuple, RaiseCount, SwitchPlace, DeleteOld, ReleaseObject}
 use Rattle.stage.specs.declared.Turn.{Turn}
-use Rattle.stage.specs.declared.Turn.TheVariants.{Corrupt, Blocked, Advanced, Restarted, Finished}
+use Rattle.stage.specs.declared.Turn.TheVariants.{Advanced, Restarted, Finished}
 
 -- broken tables: 12; held: 20; moved on: 0 and the next stage; went back: 21, to stage 1; finished: 22, idle
-abbrev pub turn_says : Turn → Said Stage
-turn_says Corrupt = said CORRUPT none
-turn_says Blocked = said BLOCKED none
-turn_says (Advanced s) = said DONE (some s)
-turn_says Restarted = said RESTARTED (some TakeObject)
-turn_says Finished = said FINISHED (some Idle)
-
--- the end of a step that makes one change and goes on to a stage: as the change ended
-abbrev pub turn_after : Change → Stage → Turn
-turn_after ChangeCorrupt s = Corrupt
-turn_after ChangeDone s = Advanced s
-
--- the same of a change that may have to wait
-abbrev pub turn_attempted : Attempt → Stage → Turn
-turn_attempted AttemptCorrupt s = Corrupt
-turn_attempted AttemptBlocked s = Blocked
-turn_attempted AttemptDone s = Advanced s
+abbrev pub turn_says : Result Turn Stop → Said Stage
+turn_says (Err Corrupt) = said CORRUPT None
+turn_says (Err Blocked) = said BLOCKED None
+turn_says (Ok (Advanced s)) = said DONE (Some s)
+turn_says (Ok Restarted) = said RESTARTED (Some TakeObject)
+turn_says (Ok Finished) = said FINISHED (Some Idle)
 
 -- what a stage comes to, unless it is refused or blocked: its number, the next stage, and the tables
 abbrev pub Move : Type 0 → Type 0
@@ -69,6 +56,10 @@ hold locks i owner next = and_then (take_lock locks i owner) (λ l. advance next
 -- Draw a stamp: the clock with one added, which must stay a stamp's magnitude.
 unfoldable pub draw : {A : Type 0} → ℕ → (ℕ → Outcome A) → Outcome A
 draw clock k = need (ltb clock 2147483647) (k (clock + 1))
+
+-- the stamp itself
+abbrev pub drawn : ℕ → Outcome ℕ
+drawn clock = draw clock (λ n. done n)
 
 unfoldable pub is_idle : Stage → Bool
 is_idle Idle = true

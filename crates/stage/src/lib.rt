@@ -1,19 +1,20 @@
 // An update in progress (document 01: a report lane): its object, the place reported with its tag, and its stage.
-// And the ends that several stages share.
-#![tactic(auto)]
+// And the lock and the stamp that several stages take.
+#![tactic(auto, unfolding(crate::specs::Turn::hold, crate::specs::Turn::draw, locks::specs::Lock::look, locks::specs::Lock::take_lock, base::specs::Outcome::need, base::specs::Outcome::awaits, base::specs::Outcome::and_then, base::specs::Outcome::tells, base::specs::Outcome::leaves, base::specs::Step::turn_tells, base::specs::Step::turn_leaves))]
 
 ghost use Rattle.std.specs.Prelude.{◌≡◌};
+ghost use Rattle.base.specs.Answer.{outcome_of};
 ghost use Rattle.stage.specs.Promise.{Turns};
-ghost use Rattle.stage.specs.Turn.{hold, turn_after, turn_attempted};
+ghost use Rattle.stage.specs.Turn.{drawn, hold};
 
-use base::{Attempt, Change};
+use base::{Corrupt, LAST_STAMP, Stop};
 use layout::place::Place;
 use locks::take_lock;
 
 // What an update does next, with the data of that stage (document 01: the stages of a report).
 // The place of stages 2 to 7 is the one being erased; the object with it is the one whose tuple moves there.
 // The place of stages 11 and 12 is the new one, that of stage 13 the old one.
-#[derive(Clone, Copy)]
+#[derive(Clone, Copy, Debug, PartialEq, Eq)]
 pub enum Stage {
     Idle,
     TakeObject,
@@ -32,7 +33,7 @@ pub enum Stage {
     ReleaseObject,
 }
 
-#[derive(Clone, Copy)]
+#[derive(Clone, Copy, Debug, PartialEq, Eq)]
 pub struct Updater {
     pub oid: u32,
     pub x: u32,
@@ -41,41 +42,28 @@ pub struct Updater {
     pub stage: Stage,
 }
 
-// How one step of an update ends: refused as corrupt, blocked, on to a stage, back to the first, or finished.
-#[derive(Clone, Copy)]
+// What a step of an update that is not refused and not blocked does: on to a stage, back to the first, or finished.
+#[derive(Clone, Copy, Debug, PartialEq, Eq)]
 pub enum Turn {
-    Corrupt,
-    Blocked,
     Advanced(Stage),
     Restarted,
     Finished,
 }
 
-// The end of a step that made a change, and goes on to a stage if it is done.
-pub fn turn_after(done: Change, next: Stage) -> Turn
-    ensures { result ≡ turn_after done next }
-{
-    match done {
-        Change::Corrupt => Turn::Corrupt,
-        Change::Done => Turn::Advanced(next),
-    }
-}
-
-// The same of a change that may have to wait.
-pub fn turn_attempted(done: Attempt, next: Stage) -> Turn
-    ensures { result ≡ turn_attempted done next }
-{
-    match done {
-        Attempt::Corrupt => Turn::Corrupt,
-        Attempt::Blocked => Turn::Blocked,
-        Attempt::Done => Turn::Advanced(next),
-    }
-}
-
 // Takes a lock and goes on to a stage. Blocked if it is taken.
-pub fn hold_lock(locks: &mut [u32], at: usize, owner: u32, next: Stage) -> Turn
+pub fn hold_lock(locks: &mut [u32], at: usize, owner: u32, next: Stage) -> Result<Turn, Stop>
     ensures { Turns (λ l. hold l at owner next) result locks.old locks.new }
 {
-    let taken = take_lock(locks, at, owner);
-    turn_attempted(taken, next)
+    take_lock(locks, at, owner)?;
+    Ok(Turn::Advanced(next))
+}
+
+// The stamp that is drawn next: the clock with one added, if that is a stamp's magnitude.
+pub fn next_stamp(clock: u32) -> Result<u32, Corrupt>
+    ensures { outcome_of result ≡ drawn clock }
+{
+    if clock >= LAST_STAMP {
+        return Err(Corrupt);
+    }
+    Ok(clock + 1)
 }

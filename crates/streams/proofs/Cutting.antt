@@ -3,9 +3,9 @@
 -- with. By induction on the bytes.
 use mathlib.Core.Path.{◌≡◌, refl, sym, ap, ◌∙◌}
 use mathlib.Core.Bool.{Bool, true, false}
-use mathlib.Core.Option.{Option, none, some}
+use Rattle.std.specs.Prelude.{Option, None, Some}
 use mathlib.Core.List.{List, [], ◌∷◌, ◌++◌, append_assoc, append-nil}
-use Prim.Native.Nat.{ℕ, suc, ◌≤◌}
+use Prim.Native.Nat.{ℕ, ◌≤◌}
 use native.Mathlib.Omega.{arith}
 use borrow.Author.Tests.{leb-true, leb-false}
 use Rattle.base.proofs.Table.{by_test}
@@ -13,7 +13,7 @@ use lib.Dec.{eqb, leb}
 use lib.ListN.{length, take, length-take}
 use lib.Seq.{take_all, take_at, length-take-le, take-append-le}
 use Rattle.base.specs.Outcome.{pick}
-use Rattle.script.specs.Split.{before, behind, spent}
+use Rattle.script.specs.Split.{before, behind}
 use Rattle.streams.specs.Lines.{joined, kept_lines}
 
 -- ---- blocks one behind the other
@@ -45,26 +45,26 @@ kept_again l m =
 kept_byte : (had : List ℕ) (b : ℕ) (m : List ℕ) → take 61 (take 61 (had ++ b ∷ []) ++ m) ≡ take 61 (had ++ b ∷ m)
 kept_byte had b m = kept_again (had ++ b ∷ []) m ∙ ap (take 61) (append_assoc had (b ∷ []) m)
 
-some_same : {A : Type 0} {x y : A} → some x ≡ some y → x ≡ y
+some_same : {A : Type 0} {x y : A} → Some x ≡ Some y → x ≡ y
 some_same e = cc
 
-none_some : {A : Type 0} {x : A} → ◌≡◌ {A = Option A} none (some x) → ⊥
+none_some : {A : Type 0} {x : A} → ◌≡◌ {A = Option A} None (Some x) → ⊥
 none_some e = let z : ◌≡◌ {A = ℕ} 0 1 = cc in omega arith
 
 -- ---- lines
 
 -- no line feed
 on_by : (b : ℕ) (bytes later had : List ℕ) (t : Bool)
-    → (behind bytes ≡ none → kept_lines (take 61 (had ++ b ∷ [])) (bytes ++ later) ≡ kept_lines
+    → (behind bytes ≡ None → kept_lines (take 61 (had ++ b ∷ [])) (bytes ++ later) ≡ kept_lines
     (take 61 (take 61 (had ++ b ∷ []) ++ before bytes)) later)
-    → pick t (some bytes) (behind bytes) ≡ none
+    → pick t (Some bytes) (behind bytes) ≡ None
     → pick t (had ∷ kept_lines [] (bytes ++ later)) (kept_lines (take 61 (had ++ b ∷ [])) (bytes ++ later))
     ≡ kept_lines (take 61 (had ++ pick t [] (b ∷ before bytes))) later
 unfolding pick
 on_by b bytes later had true ih f = absurd (none_some (sym f))
 on_by b bytes later had false ih f = ih f ∙ ap (λ (l : List ℕ). kept_lines l later) (kept_byte had b (before bytes))
 
-pub lines_on : (bytes later had : List ℕ) → length had ≤ 61 → behind bytes ≡ none
+pub lines_on : (bytes later had : List ℕ) → length had ≤ 61 → behind bytes ≡ None
     → kept_lines had (bytes ++ later) ≡ kept_lines (take 61 (had ++ before bytes)) later
 unfolding kept_lines before behind pick
 lines_on [] later had h e = sym (ap (λ (l : List ℕ). kept_lines l later)
@@ -74,10 +74,10 @@ lines_on (b ∷ bytes) later had h e =
 
 -- a line feed
 cut_by : (b : ℕ) (bytes later had rest : List ℕ) (t : Bool) → length had ≤ 61
-    → (behind bytes ≡ some rest
+    → (behind bytes ≡ Some rest
     → kept_lines (take 61 (had ++ b ∷ [])) (bytes ++ later) ≡ take 61
     (take 61 (had ++ b ∷ []) ++ before bytes) ∷ kept_lines [] (rest ++ later))
-    → pick t (some bytes) (behind bytes) ≡ some rest
+    → pick t (Some bytes) (behind bytes) ≡ Some rest
     → pick t (had ∷ kept_lines [] (bytes ++ later)) (kept_lines (take 61 (had ++ b ∷ [])) (bytes ++ later))
     ≡ take 61 (had ++ pick t [] (b ∷ before bytes)) ∷ kept_lines [] (rest ++ later)
 unfolding pick
@@ -85,23 +85,10 @@ cut_by b bytes later had rest true h ih f = rw (append-nil had, take_all 61 had 
 cut_by b bytes later had rest false h ih f =
     ih f ∙ ap (λ (l : List ℕ). l ∷ kept_lines [] (rest ++ later)) (kept_byte had b (before bytes))
 
-pub lines_cut : (bytes later had rest : List ℕ) → length had ≤ 61 → behind bytes ≡ some rest
+pub lines_cut : (bytes later had rest : List ℕ) → length had ≤ 61 → behind bytes ≡ Some rest
     → kept_lines had (bytes ++ later) ≡ take 61 (had ++ before bytes) ∷ kept_lines [] (rest ++ later)
 unfolding kept_lines before behind pick
 lines_cut [] later had rest h e = absurd (none_some e)
 lines_cut (b ∷ bytes) later had rest h e =
     cut_by b bytes later had rest (eqb b 10) h
     (lines_cut bytes later (take 61 (had ++ b ∷ [])) rest (kept_short (had ++ b ∷ []))) e
-
--- all bytes up to the end are spent where there is no line feed
-spent_by : (bytes : List ℕ) (t : Bool) → (behind bytes ≡ none → spent bytes ≡ length bytes)
-    → pick t (some bytes) (behind bytes) ≡ none
-    → pick t 1 (suc (spent bytes)) ≡ suc (length bytes)
-unfolding pick
-spent_by bytes true ih f = absurd (none_some (sym f))
-spent_by bytes false ih f = ap suc (ih f)
-
-pub spent_all : (bytes : List ℕ) → behind bytes ≡ none → spent bytes ≡ length bytes
-unfolding spent behind
-spent_all [] e = refl
-spent_all (b ∷ bytes) e = spent_by bytes (eqb b 10) (spent_all bytes) e

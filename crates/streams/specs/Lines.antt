@@ -1,5 +1,5 @@
 -- THE LINES OF AN INPUT, and the lines that are cut from it block by block.
-use Rattle.std.specs.Prelude.{List, [], ◌∷◌, ◌++◌, true, false, ℕ, eqb, take, drop}
+use Rattle.std.specs.Prelude.{List, [], ◌∷◌, ◌++◌, ℕ, eqb, take, drop, None, Some}
 use Rattle.base.specs.Outcome.{pick}
 use Rattle.script.specs.Split.{Kept}
 
@@ -33,11 +33,11 @@ pub data Cuts : List ℕ → List ℕ → List (List ℕ) → List (List ℕ) �
   over : {had : List ℕ} → Cuts had [] [] (last_line had)
   another : {had block : List ℕ} {blocks lines : List (List ℕ)} → Cuts had block blocks lines
       → Cuts had [] (block ∷ blocks) lines
-  ended : {had block line : List ℕ} {blocks lines : List (List ℕ)} {from next kept : ℕ}
-      → Kept block from had line (record { next = next; kept = kept; ended = true })
+  ended : {had block line : List ℕ} {blocks lines : List (List ℕ)} {from next : ℕ}
+      → Kept block from had line (Some next)
       → Cuts [] (drop next block) blocks lines
-      → Cuts had (drop from block) blocks (take kept line ∷ lines)
-  onward : {had block line : List ℕ} {blocks lines : List (List ℕ)} {from next kept : ℕ}
-      → Kept block from had line (record { next = next; kept = kept; ended = false })
-      → Cuts (take kept line) (drop next block) blocks lines
+      → Cuts had (drop from block) blocks (line ∷ lines)
+  onward : {had block line : List ℕ} {blocks lines : List (List ℕ)} {from : ℕ}
+      → Kept block from had line None
+      → Cuts line [] blocks lines
       → Cuts had (drop from block) blocks lines

@@ -1,36 +1,18 @@
 -- WHAT READING THE NEXT LINE PROMISES, with room made for its answer.
-use Rattle.std.specs.Prelude.{◌≡◌, ◌⊎◌, Bool, true, false, List, [], ◌∷◌, ◌++◌, ℕ, ◌≤◌, length, take}
+use Rattle.std.specs.Prelude.{◌≡◌, ◌⊎◌, Bool, true, false, List, [], ◌∷◌, ◌++◌, ℕ, ◌≤◌, length, Result, Ok, Err}
 use Rattle.streams.specs.Lines.{joined, kept_lines}
 use Rattle.streams.specs.Reading.{unread}
-use Rattle.streams.specs.declared.output.Output.{Output}
+use Rattle.streams.specs.declared.progress.Failed.{Failed}
 use Rattle.streams.specs.declared.progress.Progress.{Progress}
 
 -- the start of a run
 abbrev pub at_start : Progress
-at_start = record {
-  reads = true;
-  writes = true;
-  more = false;
-  last = false;
-  next = 0;
-  filled = 0;
-  kept = 0;
-  waiting = 0;
-}
+at_start = record { last = false; input = record { next = 0; filled = 0 }; waiting = 0 }
 
--- no line more: reading stays where it is
-abbrev pub no_line : Progress → Output → Progress
-no_line p room =
-    record {
-      reads = p.reads;
-      writes = room.writes;
-      more = false;
-      last = p.last;
-      next = p.next;
-      filled = p.filled;
-      kept = 0;
-      waiting = room.waiting;
-    }
+-- whether there is a line to answer
+abbrev pub is_line : Result Bool Failed → Bool
+is_line (Ok b) = b
+is_line (Err e) = false
 
 -- what may still be read: nothing where the input has ended, else any bytes
 abbrev pub Later : Bool → List ℕ → Type 0
@@ -45,22 +27,22 @@ due true false kept bytes = kept ∷ kept_lines [] bytes
 due false true kept bytes = []
 due false false kept bytes = kept_lines kept bytes
 
--- places in a block, a line and a buffer that are as long as they must be
-pub record Ready (block line out : List ℕ) (p : Progress) : Type 0 where
-  pub filled : p.filled ≤ length block
-  pub full : length line ≡ 61
+-- places in a block and in a buffer that are as long as they must be
+pub record Ready (block out : List ℕ) (p : Progress) : Type 0 where
+  pub filled : p.input.filled ≤ length block
   pub waiting : p.waiting ≤ length out
 
 -- THE NEXT LINE: there are blocks, those that `read` gave meanwhile, such that the lines to come are those of the bytes
 -- that were unread, of these blocks, and of what comes later. What waits was not touched, or was handed over, all of
 -- it.
-pub record NextLine (block block' line' : List ℕ) (p r : Progress) : Type 0 where
-  pub filled : r.filled ≤ length block'
-  pub few : r.kept ≤ 61
-  pub room : (r.waiting ≡ p.waiting) ⊎ (r.waiting ≡ 0)
-  pub small : r.waiting ≤ 5056
+pub record NextLine (block : List ℕ) (p : Progress) (block' line' : List ℕ) (p' : Progress) (r : Result Bool Failed)
+    : Type 0 where
+  pub filled : p'.input.filled ≤ length block'
+  pub few : length line' ≤ 61
+  pub room : (p'.waiting ≡ p.waiting) ⊎ (p'.waiting ≡ 0)
+  pub small : p'.waiting ≤ 5056
   pub blocks : List (List ℕ)
-  pub allowed : (later : List ℕ) → Later r.last later → Later p.last (joined blocks ++ later)
-  pub lines : (later : List ℕ) → Later r.last later
-      → due false p.last [] (unread block p.next p.filled ++ (joined blocks ++ later))
-      ≡ due r.more r.last (take r.kept line') (unread block' r.next r.filled ++ later)
+  pub allowed : (later : List ℕ) → Later p'.last later → Later p.last (joined blocks ++ later)
+  pub lines : (later : List ℕ) → Later p'.last later
+      → due false p.last [] (unread block p.input.next p.input.filled ++ (joined blocks ++ later))
+      ≡ due (is_line r) p'.last line' (unread block' p'.input.next p'.input.filled ++ later)

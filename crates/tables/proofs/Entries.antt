@@ -10,9 +10,8 @@ use Rattle.words.specs.Part.{part}
 use Rattle.words.specs.Words.{index_in}
 use Rattle.words.proofs.Parts.{part_length, part_part, store-set}
 use Rattle.index.specs.Index.{index_at}
-use Rattle.index.specs.Search.{search as sought, search_says, search_tells}
+use Rattle.index.specs.Search.{search as sought}
 use Rattle.index.specs.declared.search.Search.{Search}
-use Rattle.index.proofs.Probe.{find_search}
 use Rattle.index.proofs.Room.{lock_set, current-set, previous_set}
 use Rattle.tables.specs.Tables.{Tables, with_index, with_entries}
 use Rattle.tables.specs.Grid.{grid}
@@ -68,8 +67,8 @@ module _ (w : List ℕ) (ts : List ℤ) (w# : length w ≡ WORDS) where
   oids_lent = part_part w INDEX INDEX-SIZE 0 512 (omega arith) (omega arith)
 
   -- the search looks at them
-  pub seeks : (k : ℕ) (r : Search) → search_says r ≡ search_tells (part INDEX 512 w) k → sought (grid w ts).index.oid k ≡ r
-  seeks k r e = ap (λ (l : List ℕ). sought l k) oids_lent ∙ sym (find_search (part INDEX 512 w) k r e)
+  pub seeks : (k : ℕ) (r : Search) → r ≡ sought (part INDEX 512 w) k → sought (grid w ts).index.oid k ≡ r
+  seeks k r e = ap (λ (l : List ℕ). sought l k) oids_lent ∙ sym e
 
   -- the current places as they are lent
   pub current_lent : (grid w ts).index.current ≡ part CURRENT 512 w

@@ -1,4 +1,3 @@
-mod Filling
 pub mod Sized
 pub mod Grid
 pub mod Entries

@@ -8,11 +8,5 @@ use words::{TIMES, WORDS};
 pub fn right_words(words: usize, times: usize) -> bool
     ensures { result ≡ right_words words times }
 {
-    if words != WORDS {
-        return false;
-    }
-    if times != TIMES {
-        return false;
-    }
-    true
+    words == WORDS && times == TIMES
 }

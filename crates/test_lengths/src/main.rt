@@ -10,7 +10,7 @@ use query::{Query, Scan};
 use regions::region::{Kind, Region};
 use stage::{Stage, Updater};
 use std::io;
-use test_show::{same_numbers, say, say_number};
+use test_show::{say, say_number};
 use words::{INDEX, TIMES, WORDS};
 
 // In the words: the entry of object 1 in the object index. All else is 0.
@@ -36,23 +36,21 @@ fn step_update(words: &mut [u32], times: &mut [i32]) -> u32 {
 
 // What is asked: the point (0, 0), in cell 0.
 fn question() -> Region {
-    let area = Rectangle {
-        x0: 0,
-        y0: 0,
-        x1: 0,
-        y1: 0,
-    };
     Region {
         kind: Kind::Centre,
-        area,
+        area: Rectangle {
+            x0: 0,
+            y0: 0,
+            x1: 0,
+            y1: 0,
+        },
         radius: 0,
     }
 }
 
 fn query_at(stage: Scan) -> Query {
-    let question = question();
     Query {
-        question,
+        question: question(),
         stamp: 1,
         hits: 0,
         steps: 0,
@@ -68,47 +66,36 @@ fn step_query(words: &mut [u32], times: &[i32]) -> u32 {
     queries::step::step_one(query_at(Scan::Enter(0)), 0, words, times).number
 }
 
-fn run(rt: &impl Print, words: &mut [u32], times: &mut [i32]) -> io::Result<()> {
-    say(rt, b"start of an update: ", start_update(words, times))?;
-    say(rt, b"step of an update: ", step_update(words, times))?;
-    say(rt, b"start of a query: ", start_query(words, times))?;
-    say(rt, b"step of a query: ", step_query(words, times))
-}
-
-fn run_words(rt: &impl Print) -> io::Result<()> {
-    let mut words = [0u32; WORDS - 1];
-    let mut times = [0i32; TIMES];
-    words[OWN] = 1;
-    let was = words;
-    run(rt, &mut words, &mut times)?;
-    say_number(rt, b"words: ", 16897, same_numbers(&words, &was))
-}
-
-fn run_stamps(rt: &impl Print) -> io::Result<()> {
-    let mut words = [0u32; WORDS];
-    let mut times = [0i32; TIMES - 1];
-    words[OWN] = 1;
-    let was = words;
-    run(rt, &mut words, &mut times)?;
-    say_number(rt, b"stamps: ", 2047, same_numbers(&words, &was))
-}
-
-fn run_right(rt: &impl Print) -> io::Result<()> {
-    let mut words = [0u32; WORDS];
-    let mut times = [0i32; TIMES];
-    words[OWN] = 1;
-    let was = words;
-    run(rt, &mut words, &mut times)?;
-    say_number(
-        rt,
-        b"both right, words: ",
-        16898,
-        same_numbers(&words, &was),
-    )
+// Runs the four calls over so many words and stamps.
+fn run(
+    rt: &impl Print,
+    name: &str,
+    number: u32,
+    words: &mut [u32],
+    times: &mut [i32],
+) -> io::Result<()> {
+    words.fill(0);
+    times.fill(0);
+    if let Some(own) = words.get_mut(OWN) {
+        *own = 1;
+    }
+    say(rt, "start of an update: ", start_update(words, times))?;
+    say(rt, "step of an update: ", step_update(words, times))?;
+    say(rt, "start of a query: ", start_query(words, times))?;
+    say(rt, "step of a query: ", step_query(words, times))?;
+    let same = words
+        .iter()
+        .enumerate()
+        .all(|(i, w)| *w == u32::from(i == OWN));
+    say_number(rt, name, number, same)
 }
 
 fn main(rt: HostRuntime) -> io::Result<()> {
-    run_words(&rt)?;
-    run_stamps(&rt)?;
-    run_right(&rt)
+    let mut words = [0u32; WORDS];
+    let mut times = [0i32; TIMES];
+    let mut short_words = [0u32; WORDS - 1];
+    let mut short_times = [0i32; TIMES - 1];
+    run(&rt, "words: ", 16897, &mut short_words, &mut times)?;
+    run(&rt, "stamps: ", 2047, &mut words, &mut short_times)?;
+    run(&rt, "both right, words: ", 16898, &mut words, &mut times)
 }

@@ -12,24 +12,29 @@ use queries::lanes::is_idle;
 use query::{Query, Scan};
 use regions::region::{Kind, Region};
 use std::io;
-use test_show::{end_line, fill, put, put_number, same_numbers, write};
-use words::{CLOCK, HIT_TAGS, HIT_XS, HIT_YS, HITS, TIMES, WORDS};
+use test_show::compared;
+use words::{CLOCK, HIT_XS, HITS, TIMES, WORDS};
+
+// What is lent for reading: the words and the stamps.
+#[derive(Clone, Copy)]
+struct Deck<'a> {
+    words: &'a [u32],
+    times: &'a [i32],
+}
 
 // A query with so many hits, after 31 steps, at this stage.
 fn query_of(hits: u32, stage: Scan) -> Query {
-    let area = Rectangle {
-        x0: 0,
-        y0: 0,
-        x1: 1023,
-        y1: 1023,
-    };
-    let question = Region {
-        kind: Kind::Centre,
-        area,
-        radius: 0,
-    };
     Query {
-        question,
+        question: Region {
+            kind: Kind::Centre,
+            area: Rectangle {
+                x0: 0,
+                y0: 0,
+                x1: 1023,
+                y1: 1023,
+            },
+            radius: 0,
+        },
         stamp: 7,
         hits,
         steps: 31,
@@ -37,249 +42,175 @@ fn query_of(hits: u32, stage: Scan) -> Query {
     }
 }
 
-// What a reading gave, and whether the list is as it was.
-fn say_reading(
-    rt: &impl Print,
-    name: &[u8],
-    number: u32,
-    steps: u32,
-    same: bool,
-) -> io::Result<()> {
-    put_number(rt, name, number, same)?;
-    put(rt, b", steps ", steps)?;
-    end_line(rt)
+// What a reading gave, and whether the list is what it should be.
+fn say_reading(rt: &impl Print, name: &str, number: u32, steps: u32, same: bool) -> io::Result<()> {
+    println!(rt; "{name}{number}, {}, steps {steps}", compared(same))
 }
 
 // What a clearing or a collection gave, and whether the query in lane 0 is idle then.
-fn say_lane(rt: &impl Print, name: &[u8], number: u32, lanes: [Query; 4]) -> io::Result<()> {
-    put(rt, name, number)?;
-    let q = lanes[0];
-    let s = q.stage;
-    if is_idle(s) {
-        return write(rt, b", lane 0 idle\n");
-    }
-    write(rt, b", lane 0 not idle\n")
+fn say_lane(rt: &impl Print, name: &str, number: u32, lanes: [Query; 4]) -> io::Result<()> {
+    let state = if is_idle(lanes[0].stage) {
+        "idle"
+    } else {
+        "not idle"
+    };
+    println!(rt; "{name}{number}, lane 0 {state}")
 }
 
-// A reading into a list of seven numbers. Each lane has such a query.
+// A reading into a list that should be so afterwards. Each lane has the query.
+fn read_list(
+    rt: &impl Print,
+    name: &str,
+    deck: Deck<'_>,
+    lane: u32,
+    q: Query,
+    out: &mut [u32],
+    after: &[u32],
+) -> io::Result<()> {
+    let reading = read_into([q; 4], lane, out, deck.words, deck.times);
+    say_reading(rt, name, reading.number, reading.steps, *out == *after)
+}
+
+// A reading into a list of seven numbers, which should stay as it is.
 fn read_seven(
     rt: &impl Print,
-    name: &[u8],
-    words: &[u32],
-    times: &[i32],
+    name: &str,
+    deck: Deck<'_>,
     lane: u32,
     hits: u32,
     stage: Scan,
 ) -> io::Result<()> {
     let q = query_of(hits, stage);
-    let mut out = [9u32; 7];
-    let reading = read_into([q; 4], lane, &mut out, words, times);
-    let same = same_numbers(&out, &[9u32; 7]);
-    say_reading(rt, name, reading.number, reading.steps, same)
+    read_list(rt, name, deck, lane, q, &mut [9; 7], &[9; 7])
 }
 
-// A reading of a finished query with 257 hits into a list with room for them.
-fn read_many(rt: &impl Print, name: &[u8], words: &[u32], times: &[i32]) -> io::Result<()> {
-    let q = query_of(257, Scan::Finished);
-    let mut out = [9u32; 1028];
-    let reading = read_into([q; 4], 0, &mut out, words, times);
-    let same = same_numbers(&out, &[9u32; 1028]);
-    say_reading(rt, name, reading.number, reading.steps, same)
-}
-
-// A reading of a finished query with two hits into a list of ten numbers, of which the last two stay.
-fn read_ten(rt: &impl Print, name: &[u8], words: &[u32], times: &[i32]) -> io::Result<()> {
+// A reading of a finished query with two hits, in the form that hands back the filled part.
+fn read_part(rt: &impl Print, name: &str, deck: Deck<'_>) -> io::Result<()> {
     let q = query_of(2, Scan::Finished);
-    let mut out = [9u32; 10];
-    let reading = read_into([q; 4], 0, &mut out, words, times);
-    let same = same_numbers(&out, &[7u32, 100, 200, 4, 7, 100, 200, 4, 9, 9]);
-    say_reading(rt, name, reading.number, reading.steps, same)
-}
-
-// The same in the form that hands back the filled part.
-fn read_part(rt: &impl Print, name: &[u8], words: &[u32], times: &[i32]) -> io::Result<()> {
-    let q = query_of(2, Scan::Finished);
-    let mut out = [9u32; 10];
-    let mut number: u32 = 99;
-    let mut steps: u32 = 99;
-    let part = read([q; 4], 0, &mut out, &mut number, &mut steps, words, times);
-    let same = same_numbers(part, &[7u32, 100, 200, 4, 7, 100, 200, 4]);
+    let mut out = [9; 10];
+    let mut number = 99;
+    let mut steps = 99;
+    let part = read(
+        [q; 4],
+        0,
+        &mut out,
+        &mut number,
+        &mut steps,
+        deck.words,
+        deck.times,
+    );
+    let same = &*part == [7, 100, 200, 4, 7, 100, 200, 4].as_slice();
     say_reading(rt, name, number, steps, same)
 }
 
 // A clearing. Each lane has such a query.
 fn clear_lane(
     rt: &impl Print,
-    name: &[u8],
-    words: &[u32],
-    times: &[i32],
+    name: &str,
+    deck: Deck<'_>,
     lane: u32,
     hits: u32,
     stage: Scan,
 ) -> io::Result<()> {
     let q = query_of(hits, stage);
-    let swept = clear([q; 4], lane, words, times);
-    let lanes = swept.queries;
-    say_lane(rt, name, swept.number, lanes)
+    let swept = clear([q; 4], lane, deck.words, deck.times);
+    say_lane(rt, name, swept.number, swept.queries)
 }
 
-// A collection of a finished query into a list of seven numbers.
-fn collect_seven(
+// A collection of a finished query from lane 0.
+fn collect_list(
     rt: &impl Print,
-    name: &[u8],
-    words: &[u32],
-    times: &[i32],
+    name: &str,
+    deck: Deck<'_>,
     hits: u32,
+    out: &mut [u32],
 ) -> io::Result<()> {
     let q = query_of(hits, Scan::Finished);
-    let mut out = [9u32; 7];
-    let collected = collect([q; 4], 0, &mut out, words, times);
-    let lanes = collected.queries;
-    say_lane(rt, name, collected.number, lanes)
-}
-
-// A collection of a finished query with 257 hits into a list with room for them.
-fn collect_many(rt: &impl Print, name: &[u8], words: &[u32], times: &[i32]) -> io::Result<()> {
-    let q = query_of(257, Scan::Finished);
-    let mut out = [9u32; 1028];
-    let collected = collect([q; 4], 0, &mut out, words, times);
-    let lanes = collected.queries;
-    say_lane(rt, name, collected.number, lanes)
+    let collected = collect([q; 4], 0, out, deck.words, deck.times);
+    say_lane(rt, name, collected.number, collected.queries)
 }
 
 // A word is missing, or a stamp.
-fn run_broken(rt: &impl Print, words: &[u32], times: &[i32]) -> io::Result<()> {
-    let less = [0u32; WORDS - 1];
-    let short = [5i32; TIMES - 1];
-    read_seven(
+fn run_broken(rt: &impl Print, deck: Deck<'_>) -> io::Result<()> {
+    let less = Deck {
+        words: &[0; WORDS - 1],
+        ..deck
+    };
+    let short = Deck {
+        times: &[5; TIMES - 1],
+        ..deck
+    };
+    let done = Scan::Finished;
+    read_seven(rt, "read, 16897 words, lane 4: ", less, 4, 2, done)?;
+    read_seven(rt, "read, 2047 stamps: ", short, 0, 2, done)?;
+    clear_lane(rt, "clear, 16897 words, lane 4: ", less, 4, 2, done)?;
+    clear_lane(rt, "clear, 2047 stamps: ", short, 0, 2, done)
+}
+
+fn run_readings(rt: &impl Print, deck: Deck<'_>) -> io::Result<()> {
+    let done = Scan::Finished;
+    read_seven(rt, "read, lane 4: ", deck, 4, 2, done)?;
+    read_seven(rt, "read, lane idle: ", deck, 0, 2, Scan::Idle)?;
+    read_seven(rt, "read, lane unfinished: ", deck, 0, 2, Scan::Enter(0))?;
+    read_seven(rt, "read, 2 hits, 7 numbers: ", deck, 0, 2, done)?;
+    read_seven(rt, "read, 257 hits, 7 numbers: ", deck, 0, 257, done)?;
+    let q = query_of(257, done);
+    let name = "read, 257 hits, 1028 numbers: ";
+    read_list(rt, name, deck, 0, q, &mut [9; 1028], &[9; 1028])
+}
+
+// 'same' says here that the list, or the part, is what it should be: of the list of ten numbers the last two stay.
+fn run_accepted(rt: &impl Print, deck: Deck<'_>) -> io::Result<()> {
+    let done = Scan::Finished;
+    read_seven(rt, "read, no hit, 7 numbers: ", deck, 0, 0, done)?;
+    let q = query_of(2, done);
+    let name = "read, 2 hits, 10 numbers, the list: ";
+    let after = [7, 100, 200, 4, 7, 100, 200, 4, 9, 9];
+    read_list(rt, name, deck, 0, q, &mut [9; 10], &after)?;
+    read_part(rt, "read, 2 hits, 10 numbers, the part: ", deck)?;
+    read_part(rt, "read again, the part: ", deck)
+}
+
+fn run_clearings(rt: &impl Print, deck: Deck<'_>) -> io::Result<()> {
+    let done = Scan::Finished;
+    clear_lane(rt, "clear, lane 4: ", deck, 4, 2, done)?;
+    clear_lane(rt, "clear, lane idle: ", deck, 0, 2, Scan::Idle)?;
+    clear_lane(rt, "clear, lane unfinished: ", deck, 0, 2, Scan::Enter(0))?;
+    clear_lane(rt, "clear, 2 hits: ", deck, 0, 2, done)?;
+    clear_lane(rt, "clear, 257 hits: ", deck, 0, 257, done)?;
+    clear_lane(rt, "clear, lane 3: ", deck, 3, 2, done)
+}
+
+fn run_collections(rt: &impl Print, deck: Deck<'_>) -> io::Result<()> {
+    collect_list(rt, "collect, 2 hits, 7 numbers: ", deck, 2, &mut [9; 7])?;
+    collect_list(rt, "collect, 1 hit, 7 numbers: ", deck, 1, &mut [9; 7])?;
+    collect_list(
         rt,
-        b"read, 16897 words, lane 4: ",
-        &less,
-        times,
-        4,
-        2,
-        Scan::Finished,
-    )?;
-    read_seven(
-        rt,
-        b"read, 2047 stamps: ",
-        words,
-        &short,
-        0,
-        2,
-        Scan::Finished,
-    )?;
-    clear_lane(
-        rt,
-        b"clear, 16897 words, lane 4: ",
-        &less,
-        times,
-        4,
-        2,
-        Scan::Finished,
-    )?;
-    clear_lane(
-        rt,
-        b"clear, 2047 stamps: ",
-        words,
-        &short,
-        0,
-        2,
-        Scan::Finished,
+        "collect, 257 hits, 1028 numbers: ",
+        deck,
+        257,
+        &mut [9; 1028],
     )
 }
 
-fn run_readings(rt: &impl Print, words: &[u32], times: &[i32]) -> io::Result<()> {
-    read_seven(rt, b"read, lane 4: ", words, times, 4, 2, Scan::Finished)?;
-    read_seven(rt, b"read, lane idle: ", words, times, 0, 2, Scan::Idle)?;
-    read_seven(
-        rt,
-        b"read, lane unfinished: ",
-        words,
-        times,
-        0,
-        2,
-        Scan::Enter(0),
-    )?;
-    read_seven(
-        rt,
-        b"read, 2 hits, 7 numbers: ",
-        words,
-        times,
-        0,
-        2,
-        Scan::Finished,
-    )?;
-    read_seven(
-        rt,
-        b"read, 257 hits, 7 numbers: ",
-        words,
-        times,
-        0,
-        257,
-        Scan::Finished,
-    )?;
-    read_many(rt, b"read, 257 hits, 1028 numbers: ", words, times)
+// Makes every entry of every list object 7 at (100, 200) with mark 4.
+fn fill_lists(words: &mut [u32; WORDS]) {
+    let columns = words[HITS..CLOCK].chunks_exact_mut(HIT_XS);
+    for (column, value) in columns.zip([7, 100, 200, 4]) {
+        column.fill(value);
+    }
 }
 
-// 'same' says here that the list, or the part, is what it should be.
-fn run_accepted(rt: &impl Print, words: &[u32], times: &[i32]) -> io::Result<()> {
-    read_seven(
-        rt,
-        b"read, no hit, 7 numbers: ",
-        words,
-        times,
-        0,
-        0,
-        Scan::Finished,
-    )?;
-    read_ten(rt, b"read, 2 hits, 10 numbers, the list: ", words, times)?;
-    read_part(rt, b"read, 2 hits, 10 numbers, the part: ", words, times)?;
-    read_part(rt, b"read again, the part: ", words, times)
-}
-
-fn run_clearings(rt: &impl Print, words: &[u32], times: &[i32]) -> io::Result<()> {
-    clear_lane(rt, b"clear, lane 4: ", words, times, 4, 2, Scan::Finished)?;
-    clear_lane(rt, b"clear, lane idle: ", words, times, 0, 2, Scan::Idle)?;
-    clear_lane(
-        rt,
-        b"clear, lane unfinished: ",
-        words,
-        times,
-        0,
-        2,
-        Scan::Enter(0),
-    )?;
-    clear_lane(rt, b"clear, 2 hits: ", words, times, 0, 2, Scan::Finished)?;
-    clear_lane(
-        rt,
-        b"clear, 257 hits: ",
-        words,
-        times,
-        0,
-        257,
-        Scan::Finished,
-    )?;
-    clear_lane(rt, b"clear, lane 3: ", words, times, 3, 2, Scan::Finished)
-}
-
-fn run_collections(rt: &impl Print, words: &[u32], times: &[i32]) -> io::Result<()> {
-    collect_seven(rt, b"collect, 2 hits, 7 numbers: ", words, times, 2)?;
-    collect_seven(rt, b"collect, 1 hit, 7 numbers: ", words, times, 1)?;
-    collect_many(rt, b"collect, 257 hits, 1028 numbers: ", words, times)
-}
-
-// Every entry of every list is object 7 at (100, 200) with mark 4.
 fn main(rt: HostRuntime) -> io::Result<()> {
     let mut words = [0u32; WORDS];
-    fill(&mut words, HITS, HITS + HIT_XS, 7);
-    fill(&mut words, HITS + HIT_XS, HITS + HIT_YS, 100);
-    fill(&mut words, HITS + HIT_YS, HITS + HIT_TAGS, 200);
-    fill(&mut words, HITS + HIT_TAGS, CLOCK, 4);
-    let times = [5i32; TIMES];
-    run_broken(&rt, &words, &times)?;
-    run_readings(&rt, &words, &times)?;
-    run_accepted(&rt, &words, &times)?;
-    run_clearings(&rt, &words, &times)?;
-    run_collections(&rt, &words, &times)
+    fill_lists(&mut words);
+    let deck = Deck {
+        words: &words,
+        times: &[5; TIMES],
+    };
+    run_broken(&rt, deck)?;
+    run_readings(&rt, deck)?;
+    run_accepted(&rt, deck)?;
+    run_clearings(&rt, deck)?;
+    run_collections(&rt, deck)
 }

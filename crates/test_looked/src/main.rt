@@ -19,16 +19,12 @@ use std::{fs, io, str};
 fn read_full<R: Read>(input: &mut R, text: &mut [u8]) -> usize
     ensures { result ≤ length text.new }
 {
-    let mut done: usize = 0;
+    let mut done = 0;
     while done < text.len() {
-        let got = input.read(&mut text[done..]);
-        let Ok(n) = got else {
-            return done;
-        };
-        if n == 0 {
-            return done;
+        match input.read(&mut text[done..]) {
+            Ok(0) | Err(_) => break,
+            Ok(n) => done += n,
         }
-        done += n;
     }
     done
 }

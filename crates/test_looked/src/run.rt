@@ -1,39 +1,35 @@
 // The calls of one file.
-ghost use Rattle.std.specs.Prelude.{◌≡◌, ◌≤◌, length};
-ghost use Rattle.words.specs.Map.{TIMES, WORDS};
+ghost use Rattle.std.specs.Prelude.{◌≤◌, length};
 
-use crate::looking::{Looked, line_looked};
+use crate::looking::line_looked;
 use console::turn::{Due, answer_line};
 use grid::reset::reset;
 use queries::lanes::idle_queries;
 use query::Query;
-use script::split::take_line;
+use script::split::{LineBytes, take_line};
 use stage::Updater;
 use std::io;
 use updates::lanes::idle_updaters;
 use words::{TIMES, WORDS};
 
-// The lanes after a call, and what was looked at last.
+// The lanes after a call, and how many entries were looked at last.
 #[derive(Clone, Copy)]
 struct Done {
     updaters: [Updater; 8],
     queries: [Query; 4],
-    looked: Looked,
+    looked: Option<usize>,
 }
 
 // Whether a line is `looked`: no line of a script begins with a small letter.
 fn asks_looked(line: &[u8]) -> bool {
-    if line.len() == 0 {
-        return false;
-    }
-    line[0] == b'l'
+    matches!(line, [b'l', ..])
 }
 
 // The answer to `looked`.
-fn say_looked(rt: &impl Print, number: u64, looked: Looked) -> io::Result<()> {
+fn say_looked(rt: &impl Print, number: u64, looked: Option<usize>) -> io::Result<()> {
     match looked {
-        Looked::Nothing => println!(rt; "{number},none"),
-        Looked::Entries(n) => println!(rt; "{number},{n}"),
+        None => println!(rt; "{number},none"),
+        Some(n) => println!(rt; "{number},{n}"),
     }
 }
 
@@ -49,24 +45,19 @@ fn answer_call(
     rt: &impl Print,
     line: &[u8],
     number: u64,
-    out: &mut [u8],
-    list: &mut [u32],
+    out: &mut [u8; 11328],
+    list: &mut [u32; 1024],
     d: Done,
-    words: &mut [u32],
-    times: &mut [i32],
-) -> io::Result<Done>
-    requires { (11328 ≤ length out.old) × (length list.old ≡ 1024) × (length words.old ≡ WORDS) × (length times.old ≡ TIMES) }
-{
-    let last = d.looked;
+    words: &mut [u32; WORDS],
+    times: &mut [i32; TIMES],
+) -> io::Result<Done> {
     if asks_looked(line) {
-        say_looked(rt, number, last)?;
+        say_looked(rt, number, d.looked)?;
         return Ok(d);
     }
-    let updaters = d.updaters;
-    let queries = d.queries;
-    let looked = line_looked(line, queries, words, times, last);
+    let looked = line_looked(line, d.queries, words, times, d.looked);
     let due = Due { number, waiting: 0 };
-    let done = answer_line(line, due, out, list, updaters, queries, words, times);
+    let done = answer_line(line, due, out, list, d.updaters, d.queries, words, times);
     write_answer(rt, out, done.waiting)?;
     let updaters = done.updaters;
     let queries = done.queries;
@@ -82,7 +73,7 @@ pub fn run_calls(rt: &impl Print, text: &[u8]) -> io::Result<()> {
     let mut words = [0u32; WORDS];
     let mut times = [0i32; TIMES];
     let mut list = [0u32; 1024];
-    let mut line = [0u8; 61];
+    let mut line = LineBytes::new();
     let mut out = [0u8; 11328];
     let lanes = reset(idle_updaters(), idle_queries(), &mut words, &mut times);
     let updaters = lanes.updaters;
@@ -90,21 +81,18 @@ pub fn run_calls(rt: &impl Print, text: &[u8]) -> io::Result<()> {
     let mut d = Done {
         updaters,
         queries,
-        looked: Looked::Nothing,
+        looked: None,
     };
     let mut next: usize = 0;
-    let mut number: u64 = 0;
-    while number < 4096 {
+    for number in 1..=4096 {
         if next >= text.len() {
             break;
         }
-        number += 1;
-        let cut = take_line(text, next, &mut line, 0);
-        next = cut.next;
-        let kept = cut.kept;
+        line.clear();
+        next = take_line(text, next, &mut line).unwrap_or(text.len());
         d = answer_call(
             rt,
-            &line[..kept],
+            line.as_slice(),
             number,
             &mut out,
             &mut list,

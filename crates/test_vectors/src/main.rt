@@ -15,10 +15,10 @@ fn run_named(rt: &(impl Files + Print + Eprint), name: &str) -> io::Result<()> {
     };
     println!(rt; "# {name}")?;
     let run = run_script(&mut script, &mut io::writer(rt));
-    if !run.reads {
+    if run.reads.is_err() {
         rt.eprintln("test_vectors: reading failed")?;
     }
-    if !run.writes {
+    if run.writes.is_err() {
         rt.eprintln("test_vectors: writing failed")?;
     }
     Ok(())

@@ -4,7 +4,7 @@
 -- `Ticks`, `Placed`); every other part reads neither times nor clock, or speaks of lanes under way and of queries in
 -- a bucket.
 use mathlib.Core.Path.{◌≡◌}
-use mathlib.Core.Option.{none}
+use Rattle.std.specs.Prelude.{None}
 use Prim.Native.Nat.{ℕ, ◌≤◌, ◌<◌}
 use native.Mathlib.Omega.{arith}
 use lib.Dec.{T}
@@ -21,7 +21,7 @@ use Rattle.tuples.proofs.Inv.{Ok, draws, Ghost, Inv}
 -- no update is under way, and no query stands in a bucket
 pub record Resting (d : St) : Type 0 where
   pub lanes : (l : ℕ) → l < 8 → (d.lanes l).stage ≡ Idle
-  pub queries : (q : ℕ) → q < 4 → (d.queries q).bucket ≡ none
+  pub queries : (q : ℕ) → q < 4 → (d.queries q).bucket ≡ None
 
 -- Other times: each has the sign of the old one, is one that a stamp may have, and is not above the clock if it is
 -- flagged.

@@ -6,7 +6,7 @@
 use mathlib.Core.Path.{◌≡◌, refl, sym, ap, ◌∙◌}
 use mathlib.Core.Logic.{◌≢◌, ⊎_elim}
 use mathlib.Core.Bool.{true}
-use mathlib.Core.Option.{Option, none, some}
+use Rattle.std.specs.Prelude.{Option, None, Some}
 use Prim.Native.Nat.{ℕ, zero, suc, ◌<◌, ◌≤◌}
 use native.Mathlib.Omega.{arith}
 use lib.Dec.{T}
@@ -30,12 +30,12 @@ use Rattle.tuples.proofs.Main.{by_stage}
 use Rattle.tuples.proofs.Follow.{coming, Follow, Names, keeps, copies, writes, Taken, Followed, held, taken, follows}
 
 pub data Bound (g : Ghost) (d : St) (k : ℕ) : Type 0 where
-  placed : (g.gh k).cur ≢ none → Bound g d k
+  placed : (g.gh k).cur ≢ None → Bound g d k
   comes : (l : ℕ) → l < 8 → (d.lanes l).oid ≡ k → T (coming (d.lanes l).stage) → Bound g d k
 
-some_of : (o : Option Place) → o ≢ none → (p : Place) × (o ≡ some p)
-some_of none n = absurd (n refl)
-some_of (some p) n = (p, refl)
+some_of : (o : Option Place) → o ≢ None → (p : Place) × (o ≡ Some p)
+some_of None n = absurd (n refl)
+some_of (Some p) n = (p, refl)
 
 -- a stage at which a tuple is on its way is not idle
 coming_busy : (s : Stage) → T (coming s) → s ≢ Idle
@@ -45,11 +45,11 @@ coming_busy s t e = let z : T (coming Idle) = rw e at t in z
 -- ---- who is bound is known; every tuple that is counted is of a bound object
 module _ {O : StoreOps} {S : Store O} {g : Ghost} {d : St} (I : Inv S g d) where
   -- a current or previous place: there is a current one
-  has_current : (k : ℕ) (κ : Kind) → T (main κ) → (p : Place) → sel κ (g.gh k) ≡ some p → (g.gh k).cur ≢ none
+  has_current : (k : ℕ) (κ : Kind) → T (main κ) → (p : Place) → sel κ (g.gh k) ≡ Some p → (g.gh k).cur ≢ None
   unfolding sel
   has_current k κ mn p e = main_or κ mn
-      (λ y n. let z : (g.gh k).cur ≡ some p = rw y at e in clash (cc))
-      (λ y. let z : (g.gh k).prev ≡ some p = rw y at e in (I.fits.fit k).pair p z)
+      (λ y n. let z : (g.gh k).cur ≡ Some p = rw y at e in clash (cc))
+      (λ y. let z : (g.gh k).prev ≡ Some p = rw y at e in (I.fits.fit k).pair p z)
 
   pub bound_known : (k : ℕ) → Bound g d k → T (d.known k)
   unfolding sel
@@ -57,11 +57,11 @@ module _ {O : StoreOps} {S : Store O} {g : Ghost} {d : St} (I : Inv S g d) where
   bound_known k (comes l l< o t) = rw o at (I.lanes.fine l l< (coming_busy (d.lanes l).stage t)).0
 
   -- the second copy of the erased place's own tuple: the current one is there still
-  copy_own : (l : ℕ) (l< : l < 8) (p : Place) (m : ℕ) → (d.lanes l).stage ≡ LowerCount p m → (q : Place) → (g.gh (d.lanes l).oid).dup ≡ some q → (g.gh (d.lanes l).oid).cur ≢ none
+  copy_own : (l : ℕ) (l< : l < 8) (p : Place) (m : ℕ) → (d.lanes l).stage ≡ LowerCount p m → (q : Place) → (g.gh (d.lanes l).oid).dup ≡ Some q → (g.gh (d.lanes l).oid).cur ≢ None
   unfolding Ok mv cl bk
   copy_own l l< p m st q z = by (at_stage I l l< (LowerCount p m) st)
     where
-      by : {em : Entry} {gm : Pos} {t : Top} → Lowering (d.lanes l).oid p m (d.ent (d.lanes l).oid) (g.gh (d.lanes l).oid) em gm t → (g.gh (d.lanes l).oid).cur ≢ none
+      by : {em : Entry} {gm : Pos} {t : Top} → Lowering (d.lanes l).oid p m (d.ent (d.lanes l).oid) (g.gh (d.lanes l).oid) em gm t → (g.gh (d.lanes l).oid).cur ≢ None
       by (Lowering.same x y c) = λ n. c (sym (ap (λ (u : Pos). u.cur) y) ∙ n)
       by (Lowering.other x y v) = clash (cc)
 
@@ -88,21 +88,21 @@ module _ {O : StoreOps} {S : Store O} {g : Ghost} {d : St} (I : Inv S g d) where
   unfolding sel coming main
   live_bound b c h i o lt = let t = I.slots.forth b c h i o lt in go t.0 t.1
     where
-      go : (κ : Kind) → sel κ (g.gh (d.tup b i).oid) ≡ some (pl c b i) → Bound g d (d.tup b i).oid
+      go : (κ : Kind) → sel κ (g.gh (d.tup b i).oid) ≡ Some (pl c b i) → Bound g d (d.tup b i).oid
       go k_cur e = placed (λ n. clash (cc))
       go k_prev e = placed ((I.fits.fit (d.tup b i).oid).pair _ e)
       go k_new e = let w = new_lane I (d.tup b i).oid _ e in comes w.0 w.1 w.3 (rw w.2.1 tt)
       go k_dup e = by_holder I (d.tup b i).oid
           (λ z. clash (cc))
           (λ l l< t o'.
-          let e' : (g.gh (d.lanes l).oid).dup ≡ some (pl c b i) = rw o' e in
+          let e' : (g.gh (d.lanes l).oid).dup ≡ Some (pl c b i) = rw o' e in
           let w = own_dup I l l< _ refl t (pl c b i) e' in
           placed (rw o' at (copy_own l l< w.0 w.1 w.2 (pl c b i) e')))
           (λ l l< t n o'.
           let w = mov_dup I l l< _ refl t n (pl c b i) (rw o' e) in
           placed (⊎_elim
-          (λ (z : (g.gh (mv (d.lanes l).oid (d.lanes l).stage)).cur ≡ some w.0). λ y. let z' : (g.gh (d.tup b i).oid).cur ≡ some w.0 = rw o' at z in clash (cc))
-          (λ (z : (g.gh (mv (d.lanes l).oid (d.lanes l).stage)).prev ≡ some w.0). (I.fits.fit (d.tup b i).oid).pair w.0 (rw o' at z))
+          (λ (z : (g.gh (mv (d.lanes l).oid (d.lanes l).stage)).cur ≡ Some w.0). λ y. let z' : (g.gh (d.tup b i).oid).cur ≡ Some w.0 = rw o' at z in clash (cc))
+          (λ (z : (g.gh (mv (d.lanes l).oid (d.lanes l).stage)).prev ≡ Some w.0). (I.fits.fit (d.tup b i).oid).pair w.0 (rw o' at z))
           w.4))
 
 -- ---- the list of 256 entries suffices: objects that are all different and all bound are no more than 256
@@ -123,7 +123,7 @@ bound_few {d} I f n B o =
 -- ---- a step keeps who is bound
 module _ {O : StoreOps} {S : Store O} {l : ℕ} {g g' : Ghost} {d d' : St} (I : Inv S g d) (I' : Inv S g' d') (l< : l < 8) (E : Effect l g d g' d') where
   -- the current place goes on, as current or previous one: only previous ones are erased
-  current : (k : ℕ) → (g.gh k).cur ≢ none → Bound g' d' k
+  current : (k : ℕ) → (g.gh k).cur ≢ None → Bound g' d' k
   unfolding sel
   current k n =
       let w = some_of (g.gh k).cur n in
@@ -145,10 +145,10 @@ module _ {O : StoreOps} {S : Store O} {l : ℕ} {g g' : Ghost} {d d' : St} (I : 
     unfolding coming Follow
     own_comes (RaiseCount p) st t o = let f : T (coming K.s) = rw st at K.follow in comes l l< (rw mine o) (rw mine f)
     own_comes (SwitchPlace p) st t o =
-        let f : T (late K.s) × ((d'.ent (d.lanes l).oid).cur ≡ some p) = rw st at K.follow in
+        let f : T (late K.s) × ((d'.ent (d.lanes l).oid).cur ≡ Some p) = rw st at K.follow in
         let w = late_says I' l l< (d'.lanes l).stage refl (rw mine f.0) in
         let w' : (g'.gh (d.lanes l).oid).cur ≡ (d'.ent (d.lanes l).oid).cur = rw mine at w in
-        placed (λ n. let n' : (g'.gh (d.lanes l).oid).cur ≡ none = rw o n in let z : some p ≡ none = sym f.1 ∙ sym w' ∙ n' in clash (cc))
+        placed (λ n. let n' : (g'.gh (d.lanes l).oid).cur ≡ None = rw o n in let z : Some p ≡ None = sym f.1 ∙ sym w' ∙ n' in clash (cc))
     own_comes Idle st t o = absurd t
     own_comes TakeObject st t o = absurd t
     own_comes (LockCell p) st t o = absurd t
@@ -189,12 +189,12 @@ module _ {O : StoreOps} {S : Store O} {l : ℕ} {g g' : Ghost} {d d' : St} (I : 
 
 -- ---- every step of an update
 both : {P Q : Out → Type 0} (o : Option Out) → Ends P ⊥ o → Ends Q (Unit {0}) o → Ends (λ (r : Out). P r × Q r) ⊥ o
-both (some r) (done p) (done q) = done (p, q)
-both none (refused n) y = absurd n
+both (Some r) (done p) (done q) = done (p, q)
+both None (refused n) y = absurd n
 
 weaken : {P Q : Out → Type 0} (o : Option Out) → ((r : Out) → P r → Q r) → Ends P ⊥ o → Ends Q ⊥ o
-weaken (some r) f (done p) = done (f r p)
-weaken none f (refused n) = absurd n
+weaken (Some r) f (done p) = done (f r p)
+weaken None f (refused n) = absurd n
 
 -- who was bound is bound, and so is whoever a slot names that named a bound one
 pub record Binds (g : Ghost) (d : St) (g' : Ghost) (d' : St) : Type 0 where

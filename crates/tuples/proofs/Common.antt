@@ -6,7 +6,7 @@
 use mathlib.Core.Path.{◌≡◌, refl, sym, ap, ◌∙◌}
 use mathlib.Core.Logic.{◌≢◌, ◌⊎◌, inl, inr, ⊎_elim}
 use mathlib.Core.Bool.{Bool}
-use mathlib.Core.Option.{some}
+use Rattle.std.specs.Prelude.{Some}
 use Prim.Native.Nat.{ℕ, zero, suc, ◌+◌, ◌≤◌, ◌<◌}
 use native.Mathlib.Omega.{arith}
 use lib.Dec.{T, ltb→lt}
@@ -28,7 +28,7 @@ use Rattle.tuples.proofs.Local.{Local, others}
 use Rattle.tuples.proofs.Slots.{put_same, put_else, slot_or}
 
 -- ---- fits
-pub fit_same : {tup tup' : ℕ → ℕ → Tuple} {g : Pos} → ((κ : Kind) (r : Place) → sel κ g ≡ some r → (tup' r.bucket r.slot).time ≡ (tup r.bucket r.slot).time) → Fit tup g → Fit tup' g
+pub fit_same : {tup tup' : ℕ → ℕ → Tuple} {g : Pos} → ((κ : Kind) (r : Place) → sel κ g ≡ Some r → (tup' r.bucket r.slot).time ≡ (tup r.bucket r.slot).time) → Fit tup g → Fit tup' g
 unfolding sel
 fit_same f F =
     record {
@@ -104,7 +104,7 @@ pub record Lying (c : ℕ) (t : Tuple) : Type 0 where
 
 -- buckets keep their owners as far as queries mind, and what was written in a cell stays written there
 pub reading_step : {own own' : ℕ → Owner} {tup tup' : ℕ → ℕ → Tuple} {readers : ℕ → ℕ} {queries : ℕ → Scanner}
-    → ((b q c h : ℕ) → q < 4 → (queries q).bucket ≡ some b → (own b ≡ in_chain c h) ⊎ ((l : ℕ) × (own b ≡ unlinked l c h)) → (own' b ≡ in_chain c h) ⊎ ((l : ℕ) × (own' b ≡ unlinked l c h)))
+    → ((b q c h : ℕ) → q < 4 → (queries q).bucket ≡ Some b → (own b ≡ in_chain c h) ⊎ ((l : ℕ) × (own b ≡ unlinked l c h)) → (own' b ≡ in_chain c h) ⊎ ((l : ℕ) × (own' b ≡ unlinked l c h)))
     → ((b i c h : ℕ) → (own b ≡ in_chain c h) ⊎ ((l : ℕ) × (own b ≡ unlinked l c h)) → Lying c (tup b i) → Lying c (tup' b i))
     → Reading own tup readers queries → Reading own' tup' readers queries
 reading_step {tup = tup} f w R = record {

@@ -4,7 +4,7 @@
 -- Each stage is followed through its tests to its end.
 use mathlib.Core.Path.{◌≡◌, refl}
 use mathlib.Core.Bool.{Bool, not, ◌&&◌}
-use mathlib.Core.Option.{Option, some}
+use Rattle.std.specs.Prelude.{Option, Some}
 use Prim.Native.Nat.{ℕ, ◌-◌, ◌<◌}
 use native.Mathlib.Omega.{arith}
 use lib.Dec.{T, eqb}
@@ -44,7 +44,7 @@ Follow e ChooseCell s = Unit {0}
 Follow e MakeRoom s = Unit {0}
 Follow e WriteTuple s = T (coming s)
 Follow e (RaiseCount p) s = T (coming s)
-Follow e (SwitchPlace p) s = T (late s) × (e.cur ≡ some p)
+Follow e (SwitchPlace p) s = T (late s) × (e.cur ≡ Some p)
 Follow e (DeleteOld p) s = Unit {0}
 Follow e ReleaseObject s = Unit {0}
 

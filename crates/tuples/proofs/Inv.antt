@@ -14,7 +14,7 @@
 use mathlib.Core.Path.{◌≡◌, ◌∙◌}
 use mathlib.Core.Logic.{◌≢◌, ◌⊎◌}
 use mathlib.Core.Bool.{Bool, true, false}
-use mathlib.Core.Option.{Option, none, some}
+use Rattle.std.specs.Prelude.{Option, None, Some}
 use mathlib.Core.List.{List}
 use Prim.Native.Nat.{ℕ, suc, ◌+◌, ◌-◌, ◌≤◌, ◌<◌}
 use native.Mathlib.Omega.{arith}
@@ -63,7 +63,7 @@ abbrev pub mk : Option Place → Option Place → Option Place → Option Place 
 mk c p n d f = record { cur = c; prev = p; new = n; dup = d; fresh = f }
 
 abbrev pub plain : Entry → Pos
-plain e = mk e.cur e.prev none none false
+plain e = mk e.cur e.prev None None false
 
 abbrev pub pl : ℕ → ℕ → ℕ → Place
 pl c b i = record { cell = c; bucket = b; slot = i }
@@ -75,18 +75,18 @@ pub record Lives (own : ℕ → Owner) (count : ℕ → ℕ) (p : Place) : Type 
 
 -- every live slot is exactly one place of its own tuple's object
 pub record Slots (own : ℕ → Owner) (count : ℕ → ℕ) (tup : ℕ → ℕ → Tuple) (known : ℕ → Bool) (gh : ℕ → Pos) : Type 0 where
-  pub back : (κ : Kind) (k : ℕ) (p : Place) → sel κ (gh k) ≡ some p → Lives own count p × ((tup p.bucket p.slot).oid ≡ k) × T (known k)
-  pub forth : (b c h i : ℕ) → own b ≡ in_chain c h → i < count b → (κ : Kind) × (sel κ (gh (tup b i).oid) ≡ some (pl c b i))
-  pub apart : (κ κ' : Kind) (k : ℕ) (p : Place) → sel κ (gh k) ≡ some p → sel κ' (gh k) ≡ some p → κ ≡ κ'
+  pub back : (κ : Kind) (k : ℕ) (p : Place) → sel κ (gh k) ≡ Some p → Lives own count p × ((tup p.bucket p.slot).oid ≡ k) × T (known k)
+  pub forth : (b c h i : ℕ) → own b ≡ in_chain c h → i < count b → (κ : Kind) × (sel κ (gh (tup b i).oid) ≡ Some (pl c b i))
+  pub apart : (κ κ' : Kind) (k : ℕ) (p : Place) → sel κ (gh k) ≡ Some p → sel κ' (gh k) ≡ Some p → κ ≡ κ'
 
 -- of one object: signs of its times, its two places in different cells, and a previous one only beside a current one
 pub record Fit (tup : ℕ → ℕ → Tuple) (g : Pos) : Type 0 where
-  pub curs : (p : Place) → g.cur ≡ some p → T (stands (tup p.bucket p.slot).time)
-  pub news : (p : Place) → g.new ≡ some p → T (stands (tup p.bucket p.slot).time)
-  pub prevs : (p : Place) → g.prev ≡ some p → g.fresh ≡ false → T (stood (tup p.bucket p.slot).time)
-  pub unflagged : (p : Place) → g.prev ≡ some p → g.fresh ≡ true → T (stands (tup p.bucket p.slot).time)
-  pub far : (p q : Place) → g.cur ≡ some p → g.prev ≡ some q → p.cell ≢ q.cell
-  pub pair : (q : Place) → g.prev ≡ some q → g.cur ≢ none
+  pub curs : (p : Place) → g.cur ≡ Some p → T (stands (tup p.bucket p.slot).time)
+  pub news : (p : Place) → g.new ≡ Some p → T (stands (tup p.bucket p.slot).time)
+  pub prevs : (p : Place) → g.prev ≡ Some p → g.fresh ≡ false → T (stood (tup p.bucket p.slot).time)
+  pub unflagged : (p : Place) → g.prev ≡ Some p → g.fresh ≡ true → T (stands (tup p.bucket p.slot).time)
+  pub far : (p q : Place) → g.cur ≡ Some p → g.prev ≡ Some q → p.cell ≢ q.cell
+  pub pair : (q : Place) → g.prev ≡ Some q → g.cur ≢ None
 
 pub record Fits (tup : ℕ → ℕ → Tuple) (gh : ℕ → Pos) : Type 0 where
   pub fit : (k : ℕ) → Fit tup (gh k)
@@ -106,20 +106,20 @@ top_of first count tup c = record { bucket = first c; n = count (first c); last 
 
 -- the moved object's places; `d`: its second copy
 pub data Moved (p : Place) (e : Entry) (g : Pos) (d : Option Place) : Type 0 where
-  moved_cur : g ≡ mk (some p) e.prev none d false → Moved p e g d
-  moved_prev : g ≡ mk e.cur (some p) none d false → Moved p e g d
+  moved_cur : g ≡ mk (Some p) e.prev None d false → Moved p e g d
+  moved_prev : g ≡ mk e.cur (Some p) None d false → Moved p e g d
 
 pub data Lowering (k : ℕ) (p : Place) (m : ℕ) (e : Entry) (g : Pos) (em : Entry) (gm : Pos) (t : Top) : Type 0 where
-  same : m ≡ k → g ≡ mk e.cur none none (some (pl p.cell t.bucket (t.n - 1))) false → e.cur ≢ none → Lowering k p m e g em gm t
-  other : m ≢ k → g ≡ mk e.cur none none none false → Moved p em gm (some (pl p.cell t.bucket (t.n - 1))) → Lowering k p m e g em gm t
+  same : m ≡ k → g ≡ mk e.cur None None (Some (pl p.cell t.bucket (t.n - 1))) false → e.cur ≢ None → Lowering k p m e g em gm t
+  other : m ≢ k → g ≡ mk e.cur None None None false → Moved p em gm (Some (pl p.cell t.bucket (t.n - 1))) → Lowering k p m e g em gm t
 
 pub data Erasing (k : ℕ) (p : Place) (m : ℕ) (e : Entry) (g : Pos) (em : Entry) (gm : Pos) : Type 0 where
-  same : m ≡ k → g ≡ mk e.cur none none none false → Erasing k p m e g em gm
-  other : m ≢ k → g ≡ mk e.cur none none none false → Moved p em gm none → Erasing k p m e g em gm
+  same : m ≡ k → g ≡ mk e.cur None None None false → Erasing k p m e g em gm
+  other : m ≢ k → g ≡ mk e.cur None None None false → Moved p em gm None → Erasing k p m e g em gm
 
 pub record Outside (e : Entry) (c : ℕ) : Type 0 where
-  pub no_prev : e.prev ≡ none
-  pub out : (q : Place) → e.cur ≡ some q → q.cell ≢ c
+  pub no_prev : e.prev ≡ None
+  pub out : (q : Place) → e.cur ≡ Some q → q.cell ≢ c
 
 -- an update at this stage holds its own object's lock, that of the object whose tuple it moves, that of a cell
 unfoldable pub stage_holds_own : Stage → Bool
@@ -149,18 +149,18 @@ bk s = or_else 0 (row s).unlinked
 unfoldable pub Ok : ℕ → ℕ → ℕ → Stage → Entry → Pos → Entry → Pos → Top → Owner → Type 0
 Ok l k c Idle e g em gm t o = Unit {0}
 Ok l k c TakeObject e g em gm t o = Unit {0}
-Ok l k c (LockCell p) e g em gm t o = (e.prev ≡ some p) × (g ≡ plain e)
-Ok l k c (LookLast p) e g em gm t o = (e.prev ≡ some p) × (g ≡ plain e)
-Ok l k c (CopyLast p m) e g em gm t o = (e.prev ≡ some p) × (g ≡ plain e) × (gm ≡ plain em) × (t.last ≡ m)
+Ok l k c (LockCell p) e g em gm t o = (e.prev ≡ Some p) × (g ≡ plain e)
+Ok l k c (LookLast p) e g em gm t o = (e.prev ≡ Some p) × (g ≡ plain e)
+Ok l k c (CopyLast p m) e g em gm t o = (e.prev ≡ Some p) × (g ≡ plain e) × (gm ≡ plain em) × (t.last ≡ m)
 Ok l k c (LowerCount p m) e g em gm t o = Lowering k p m e g em gm t
 Ok l k c (ReturnBucket p m b) e g em gm t o = Erasing k p m e g em gm × ((h : ℕ) × (o ≡ unlinked l p.cell h))
 Ok l k c (ErasePlace p m) e g em gm t o = Erasing k p m e g em gm
-Ok l k c ChooseCell e g em gm t o = (g ≡ plain e) × (e.prev ≡ none)
+Ok l k c ChooseCell e g em gm t o = (g ≡ plain e) × (e.prev ≡ None)
 Ok l k c MakeRoom e g em gm t o = (g ≡ plain e) × Outside e (c)
 Ok l k c WriteTuple e g em gm t o = (g ≡ plain e) × Outside e (c) × (t.bucket < 512) × (t.n < 4)
 Ok l k c (RaiseCount p) e g em gm t o = (g ≡ plain e) × Outside e (c) × (t.bucket < 512) × (t.n < 4) × (p ≡ pl (c) t.bucket t.n) × (t.fill.oid ≡ k) × T (stands t.fill.time) × (cell_of t.fill.x t.fill.y ≡ c)
-Ok l k c (SwitchPlace p) e g em gm t o = (g ≡ mk e.cur none (some p) none false) × Outside e (c) × (p.cell ≡ c)
-Ok l k c (DeleteOld p) e g em gm t o = (e.prev ≡ some p) × (g ≡ mk e.cur e.prev none none true)
+Ok l k c (SwitchPlace p) e g em gm t o = (g ≡ mk e.cur None (Some p) None false) × Outside e (c) × (p.cell ≡ c)
+Ok l k c (DeleteOld p) e g em gm t o = (e.prev ≡ Some p) × (g ≡ mk e.cur e.prev None None true)
 Ok l k c ReleaseObject e g em gm t o = g ≡ plain e
 
 -- what a lane says is kept where the values at the things it holds are kept
@@ -221,8 +221,8 @@ pub record Back (own : ℕ → Owner) (lanes : ℕ → Updater) : Type 0 where
   pub lane : (b l c h : ℕ) → own b ≡ unlinked l c h → (b < 512) × (l < 8) × ((p : Place) × (m : ℕ) × ((lanes l).stage ≡ ReturnBucket p m b))
 
 unfoldable pub stands_in_lem : Option ℕ → ℕ → Bool
-stands_in_lem none b = false
-stands_in_lem (some b') b = eqb b' b
+stands_in_lem None b = false
+stands_in_lem (Some b') b = eqb b' b
 
 -- a query stands in a bucket of its cell, or in one just unlinked; the slots it has still to read have been written, in that cell
 pub record Standing (own : ℕ → Owner) (tup : ℕ → ℕ → Tuple) (b c left : ℕ) : Type 0 where
@@ -234,7 +234,7 @@ pub record Standing (own : ℕ → Owner) (tup : ℕ → ℕ → Tuple) (b c lef
 
 pub record Reading (own : ℕ → Owner) (tup : ℕ → ℕ → Tuple) (readers : ℕ → ℕ) (queries : ℕ → Scanner) : Type 0 where
   pub exact : (b : ℕ) → readers b ≡ sum_below 4 (λ q. bit (stands_in_lem (queries q).bucket b))
-  pub standing : (q b : ℕ) → q < 4 → (queries q).bucket ≡ some b → Standing own tup b (queries q).cell (queries q).left
+  pub standing : (q b : ℕ) → q < 4 → (queries q).bucket ≡ Some b → Standing own tup b (queries q).cell (queries q).left
 
 -- Every slot, live or not: its time is one that a stamp may have, or 0; a flagged one was drawn, so it is not above the clock (a positive one may be: a repair keeps the stamps that it finds); its object is known.
 pub record Young (tup : ℕ → ℕ → Tuple) (known : ℕ → Bool) (clock : ℕ) : Type 0 where

@@ -5,7 +5,7 @@
 use mathlib.Core.Path.{◌≡◌, refl, sym, ap, ◌∙◌}
 use mathlib.Core.Logic.{◌≢◌, inl, inr, ⊎_elim}
 use mathlib.Core.Bool.{Bool, true, false, not, ◌&&◌}
-use mathlib.Core.Option.{Option, none, some}
+use Rattle.std.specs.Prelude.{Option, None, Some}
 use Prim.Native.Nat.{ℕ, zero, suc, ◌≤◌, ◌<◌}
 use native.Mathlib.Omega.{arith}
 use lib.Dec.{T, leb, ltb, ltb→lt, leb→le, nleb→lt}
@@ -191,9 +191,9 @@ module _ {O : StoreOps} (S : Store O) where
 -- ---- nothing is under way
 
 abbrev pub nothing : Ghost
-nothing = record { own = λ _. in_pool; height = λ _. 0; gh = λ _. mk none none none none false }
+nothing = record { own = λ _. in_pool; height = λ _. 0; gh = λ _. mk None None None None false }
 
-pub sel_none : (κ : Kind) (p : Place) → sel κ (mk none none none none false) ≡ some p → ⊥
+pub sel_none : (κ : Kind) (p : Place) → sel κ (mk None None None None false) ≡ Some p → ⊥
 unfolding sel
 sel_none k_cur p e = clash (cc)
 sel_none k_prev p e = clash (cc)
@@ -225,5 +225,5 @@ module _ {O : StoreOps} {S : Store O} {g : Ghost} {d : St} (I : Inv S g d) where
       obj (suc l) k e = omega (arith, (I.objs.his k l e).0)
 
   -- a place of any kind, of any object
-  pub place_range : (κ : Kind) (k : ℕ) (p : Place) → sel κ (g.gh k) ≡ some p → (p.cell < 256) × (p.bucket < 512) × (p.slot < 4)
+  pub place_range : (κ : Kind) (k : ℕ) (p : Place) → sel κ (g.gh k) ≡ Some p → (p.cell < 256) × (p.bucket < 512) × (p.slot < 4)
   place_range κ k p e = let t = I.slots.back κ k p e in let w = I.links.within _ _ _ t.0.owned in let m = I.full.most _ _ _ t.0.owned in let lo = t.0.low in (w.0, w.2, omega arith)

@@ -9,7 +9,7 @@
 use mathlib.Core.Path.{◌≡◌, refl, sym, ap, ◌∙◌}
 use mathlib.Core.Logic.{◌≢◌, inl, inr}
 use mathlib.Core.Bool.{false}
-use mathlib.Core.Option.{none, some}
+use Rattle.std.specs.Prelude.{None, Some}
 use Prim.Native.Nat.{ℕ, suc, ◌≤◌, ◌<◌}
 use native.Mathlib.Omega.{arith}
 use lib.Dec.{T, lt→ltb}
@@ -114,7 +114,7 @@ module _ {O : StoreOps} {S : Store O} {g : Ghost} {d : St} (I : Inv S g d) (l : 
 
   module _ (p : Place) (st : (d.lanes l).stage ≡ RaiseCount p) where
     abbrev g' : Pos
-    g' = mk (d.ent k).cur none (some p) none false
+    g' = mk (d.ent k).cur None (Some p) None false
 
     abbrev gg : Ghost
     gg = record { own = g.own; height = g.height; gh = upd g.gh k g' }
@@ -213,7 +213,7 @@ module _ {O : StoreOps} {S : Store O} {g : Ghost} {d : St} (I : Inv S g d) (l : 
           }
 
     -- the slot that comes to life was written by stage 10, at the reported place (the clause `Written`)
-    effect11 : (d.tup p.bucket p.slot).oid ≡ k → spot_of (d.tup p.bucket p.slot) ≡ aim (d.lanes l) → g.gh k ≡ plain (d.ent k) → (d.ent k).prev ≡ none → d.count p.bucket ≡ p.slot → Effect l g d gg after₁₁
+    effect11 : (d.tup p.bucket p.slot).oid ≡ k → spot_of (d.tup p.bucket p.slot) ≡ aim (d.lanes l) → g.gh k ≡ plain (d.ent k) → (d.ent k).prev ≡ None → d.count p.bucket ≡ p.slot → Effect l g d gg after₁₁
     unfolding sel
     effect11 mine sp gk np cn =
         record {
@@ -221,8 +221,8 @@ module _ {O : StoreOps} {S : Store O} {g : Ghost} {d : St} (I : Inv S g d) (l : 
           steady = λ q q< b c h e o. o;
           goes = λ j κ mn r h e o. inr (goes_same d.clock j κ mn r h (at_or j k
               (λ x. rw (x, upd_same g.gh k g') (main_or κ mn
-              (λ y. let z : (g.gh k).cur ≡ some r = rw (x, y) at e in let z' : (d.ent k).cur ≡ some r = rw gk at z in rw y z')
-              (λ y. let z : (g.gh k).prev ≡ some r = rw (x, y) at e in let z' : (d.ent k).prev ≡ some r = rw gk at z in clash (cc))))
+              (λ y. let z : (g.gh k).cur ≡ Some r = rw (x, y) at e in let z' : (d.ent k).cur ≡ Some r = rw gk at z in rw y z')
+              (λ y. let z : (g.gh k).prev ≡ Some r = rw (x, y) at e in let z' : (d.ent k).prev ≡ Some r = rw gk at z in clash (cc))))
               (λ x. rw (upd_other g.gh k g' j x) e)) o (λ s _ t. t));
           met = λ q b i M. slot_or p.bucket p.slot b i
               (λ e₁ e₂. rw (e₁, e₂) (written mine sp))

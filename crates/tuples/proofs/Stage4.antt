@@ -11,7 +11,7 @@
 use mathlib.Core.Path.{◌≡◌, refl, sym, ap, ◌∙◌}
 use mathlib.Core.Logic.{◌≢◌, ◌⊎◌, inl, inr}
 use mathlib.Core.Bool.{false}
-use mathlib.Core.Option.{none, some}
+use Rattle.std.specs.Prelude.{None, Some}
 use Prim.Native.Nat.{ℕ, suc, ◌-◌, ◌<◌}
 use native.Mathlib.Omega.{arith}
 use lib.Dec.{T, lt→ltb, le→leb, leb, ltb}
@@ -54,7 +54,7 @@ module _ {O : StoreOps} {S : Store O} {g : Ghost} {d : St} (I : Inv S g d) (l : 
   after = put_lane l (d.lanes l) (LowerCount p m) (with_tup d tup')
 
   record Has : Type 0 where
-    prev : (d.ent k).prev ≡ some p
+    prev : (d.ent k).prev ≡ Some p
     gk : g.gh k ≡ plain (d.ent k)
     gm : g.gh m ≡ plain (d.ent m)
     last : (d.tup f (n - 1)).oid ≡ m
@@ -63,7 +63,7 @@ module _ {O : StoreOps} {S : Store O} {g : Ghost} {d : St} (I : Inv S g d) (l : 
     tall : Tall I p.cell
     n> : 0 < n
     κ : Kind
-    at_q : sel κ (plain (d.ent m)) ≡ some q
+    at_q : sel κ (plain (d.ent m)) ≡ Some q
     lock_k : d.lock k ≡ suc l
     lock_m : d.lock m ≡ suc l
     m_known : T (d.known m)
@@ -73,12 +73,12 @@ module _ {O : StoreOps} {S : Store O} {g : Ghost} {d : St} (I : Inv S g d) (l : 
   unfolding Ok mv cl bk sel cel_held stage_holds_own mov_held filling draws
   has =
       let w = at_stage I l l< (CopyLast p m) st in
-      let sp : sel k_prev (g.gh k) ≡ some p = rw w.1 w.0 in
+      let sp : sel k_prev (g.gh k) ≡ Some p = rw w.1 w.0 in
       let t = I.slots.back k_prev k p sp in
       let H = tall_of I p.bucket p.cell t.0.h t.0.owned in
       let n>₀ = some_tuple I l l< (CopyLast p m) st tt (λ z. z) f H.h H.owned in
       let u = I.slots.forth f p.cell H.h (n - 1) H.owned (omega arith) in
-      let at : sel u.0 (g.gh m) ≡ some q = rw w.3 at u.1 in
+      let at : sel u.0 (g.gh m) ≡ Some q = rw w.3 at u.1 in
       let t' = I.slots.back u.0 m q at in
       record {
         prev = w.0;
@@ -142,7 +142,7 @@ module _ {O : StoreOps} {S : Store O} {g : Ghost} {d : St} (I : Inv S g d) (l : 
   abbrev Gone : (ℕ → Pos) → ℕ → Kind → Place → ℕ → Type 0
   Gone gh' j κ r h₁ = Erased (d.lanes l) κ j r ⊎ Goes g.own g.own d.tup tup' gh' d.clock j r h₁
 
-  effect : Has → (gh' : ℕ → Pos) → ((j : ℕ) (κ : Kind) → T (main κ) → (r : Place) (h₁ : ℕ) → sel κ (g.gh j) ≡ some r → g.own r.bucket ≡ in_chain r.cell h₁ → Gone gh' j κ r h₁)
+  effect : Has → (gh' : ℕ → Pos) → ((j : ℕ) (κ : Kind) → T (main κ) → (r : Place) (h₁ : ℕ) → sel κ (g.gh j) ≡ Some r → g.own r.bucket ≡ in_chain r.cell h₁ → Gone gh' j κ r h₁)
       → Effect l g d (G₁ gh') after
   effect h gh' gs =
       record {
@@ -156,10 +156,10 @@ module _ {O : StoreOps} {S : Store O} {g : Ghost} {d : St} (I : Inv S g d) (l : 
       }
 
   -- the previous one of the update's own object is erased
-  erased : Has → (j : ℕ) (r : Place) (κ : Kind) → j ≡ k → κ ≡ k_prev → sel κ (g.gh j) ≡ some r → Erased (d.lanes l) κ j r
+  erased : Has → (j : ℕ) (r : Place) (κ : Kind) → j ≡ k → κ ≡ k_prev → sel κ (g.gh j) ≡ Some r → Erased (d.lanes l) κ j r
   unfolding sel
   erased h j r κ e e' z =
-      let w : (g.gh k).prev ≡ some r = rw (e, e') at z in
+      let w : (g.gh k).prev ≡ Some r = rw (e, e') at z in
       let w' : p ≡ r = cc (h.gk, h.prev) in
       record { prev = e'; own = sym e; m = m; stage = rw (← w') st }
 
@@ -185,8 +185,8 @@ module _ {O : StoreOps} {S : Store O} {g : Ghost} {d : St} (I : Inv S g d) (l : 
       let pq : p ≡ q = two_kinds (d.ent k).cur (d.ent k).prev false q h.κ (rw e at h.at_q)
       (λ z. absurd (F.far q p z h.prev refl))
       (λ z. cc h.prev) in
-      let g₁ = mk (d.ent k).cur none none (some p) false in
-      let s₁ = rename I.slots k g₁ prev_dup (λ κ. rw (h.gk, h.prev) (prev_dup_eq (d.ent k).cur none none (some p) false false κ)) in
+      let g₁ = mk (d.ent k).cur None None (Some p) false in
+      let s₁ = rename I.slots k g₁ prev_dup (λ κ. rw (h.gk, h.prev) (prev_dup_eq (d.ent k).cur None None (Some p) false false κ)) in
       let same : (b i : ℕ) → tup' b i ≡ d.tup b i = λ b i.
       let e₁ : p.bucket ≡ f = ap (λ (z : Place). z.bucket) pq in
       let e₂ : p.slot ≡ n - 1 = ap (λ (z : Place). z.slot) pq in
@@ -202,7 +202,7 @@ module _ {O : StoreOps} {S : Store O} {g : Ghost} {d : St} (I : Inv S g d) (l : 
             (Lowering.same e (rw (upd_same g.gh k g₁, ← pq)) (F.pair p h.prev)),
         effect h (upd g.gh k g₁) (λ j κ mn r h₁ z o. at_or j k
             (λ y. main_or κ mn
-            (λ x. inr (goes_same d.clock j κ mn r h₁ (let z' : (g.gh k).cur ≡ some r = rw (y, x) at z in let z'' : (d.ent k).cur ≡ some r = rw h.gk at z' in rw (y, x, upd_same g.gh k g₁) z'') o (told_eq d.clock (same _ _))))
+            (λ x. inr (goes_same d.clock j κ mn r h₁ (let z' : (g.gh k).cur ≡ Some r = rw (y, x) at z in let z'' : (d.ent k).cur ≡ Some r = rw h.gk at z' in rw (y, x, upd_same g.gh k g₁) z'') o (told_eq d.clock (same _ _))))
             (λ x. inl (erased h j r κ y x z)))
             (λ y. inr (goes_same d.clock j κ mn r h₁ (rw (upd_other g.gh k g₁ j y) z) o (told_eq d.clock (same _ _))))),
       )
@@ -210,10 +210,10 @@ module _ {O : StoreOps} {S : Store O} {g : Ghost} {d : St} (I : Inv S g d) (l : 
   -- another object's: its tuple is copied over the erased one, and its old slot is a second copy
   module _ (h : Has) (ne : m ≢ k) where
     abbrev gk₁ : Pos
-    gk₁ = mk (d.ent k).cur none none none false
+    gk₁ = mk (d.ent k).cur None None None false
 
     abbrev gm₁ : Pos
-    gm₁ = mk (d.ent m).cur (d.ent m).prev none (some p) false
+    gm₁ = mk (d.ent m).cur (d.ent m).prev None (Some p) false
 
     lose_k : Lose (g.gh k) gk₁ k_prev p
     unfolding sel
@@ -242,7 +242,7 @@ module _ {O : StoreOps} {S : Store O} {g : Ghost} {d : St} (I : Inv S g d) (l : 
     slots₂ = recolor I.slots k m gk₁ gm₁ k_prev k_dup p (d.tup f (n - 1)) (λ z. ne (sym z)) lose_k gain_m h.last h.m_known
 
     -- what another place of m reads
-    reads : (κ : Kind) (r : Place) → sel κ (g.gh m) ≡ some r → tup' r.bucket r.slot ≡ d.tup r.bucket r.slot
+    reads : (κ : Kind) (r : Place) → sel κ (g.gh m) ≡ Some r → tup' r.bucket r.slot ≡ d.tup r.bucket r.slot
     reads κ r z = put_else d.tup p.bucket p.slot (d.tup f (n - 1)) r.bucket r.slot (λ e₁ e₂.
         let t = I.slots.back κ m r z in
         ne (sym t.1 ∙ rw (e₁, e₂) h.p_oid))
@@ -279,12 +279,12 @@ module _ {O : StoreOps} {S : Store O} {g : Ghost} {d : St} (I : Inv S g d) (l : 
     F-m = rw h.gm at (I.fits.fit m)
 
     -- a place of an object other than m: kept, unless it is the erased one
-    others_go : (g₃ : Pos) (j : ℕ) (κ : Kind) → T (main κ) → (r : Place) (h₁ : ℕ) → sel κ (g.gh j) ≡ some r → g.own r.bucket ≡ in_chain r.cell h₁ → j ≢ m → Gone (upd gh₂ m g₃) j κ r h₁
+    others_go : (g₃ : Pos) (j : ℕ) (κ : Kind) → T (main κ) → (r : Place) (h₁ : ℕ) → sel κ (g.gh j) ≡ Some r → g.own r.bucket ≡ in_chain r.cell h₁ → j ≢ m → Gone (upd gh₂ m g₃) j κ r h₁
     unfolding sel
     others_go g₃ j κ mn r h₁ z o nm = at_or j k
         (λ y. main_or κ mn
-        (λ x. let z' : (g.gh k).cur ≡ some r = rw (y, x) at z in
-        let z'' : (d.ent k).cur ≡ some r = rw h.gk at z' in
+        (λ x. let z' : (g.gh k).cur ≡ Some r = rw (y, x) at z in
+        let z'' : (d.ent k).cur ≡ Some r = rw h.gk at z' in
         let F : Fit d.tup (plain (d.ent k)) = rw h.gk at (I.fits.fit k) in
         inr (goes_same d.clock j κ mn r h₁ (rw (y, x, at_k g₃) z'') o (told_eq d.clock (put_else d.tup p.bucket p.slot (d.tup f (n - 1)) r.bucket r.slot (λ e₁ e₂.
         let t = I.slots.back k_cur k r z' in
@@ -295,7 +295,7 @@ module _ {O : StoreOps} {S : Store O} {g : Ghost} {d : St} (I : Inv S g d) (l : 
         let t = I.slots.back κ j r z in y (sym t.1 ∙ rw (e₁, e₂) h.p_oid))))))
 
     -- the moved tuple's place
-    goes_p : (g₃ : Pos) (κ : Kind) → T (main κ) → (j : ℕ) (r : Place) (h₁ : ℕ) → j ≡ m → r ≡ q → sel κ g₃ ≡ some p → g.own r.bucket ≡ in_chain r.cell h₁ → Gone (upd gh₂ m g₃) j κ r h₁
+    goes_p : (g₃ : Pos) (κ : Kind) → T (main κ) → (j : ℕ) (r : Place) (h₁ : ℕ) → j ≡ m → r ≡ q → sel κ g₃ ≡ Some p → g.own r.bucket ≡ in_chain r.cell h₁ → Gone (upd gh₂ m g₃) j κ r h₁
     goes_p g₃ κ mn j r h₁ e e' z o = rw e' (inr (record {
       κ = κ;
       kind = mn;
@@ -308,16 +308,16 @@ module _ {O : StoreOps} {S : Store O} {g : Ghost} {d : St} (I : Inv S g d) (l : 
     }))
 
     -- the moved object's other place
-    goes_r : (g₃ : Pos) (κ : Kind) → T (main κ) → (j : ℕ) (r : Place) (h₁ : ℕ) → j ≡ m → sel κ (g.gh m) ≡ some r → sel κ g₃ ≡ some r → g.own r.bucket ≡ in_chain r.cell h₁ → Gone (upd gh₂ m g₃) j κ r h₁
+    goes_r : (g₃ : Pos) (κ : Kind) → T (main κ) → (j : ℕ) (r : Place) (h₁ : ℕ) → j ≡ m → sel κ (g.gh m) ≡ Some r → sel κ g₃ ≡ Some r → g.own r.bucket ≡ in_chain r.cell h₁ → Gone (upd gh₂ m g₃) j κ r h₁
     goes_r g₃ κ mn j r h₁ e z z' o = inr (goes_same d.clock j κ mn r h₁ (rw (e, upd_same gh₂ m g₃) z') o (told_eq d.clock (reads κ r z)))
 
     other_case : (g' : Ghost) × Inv S g' after × Effect l g d g' after
     unfolding sel
     other_case = two_kinds (d.ent m).cur (d.ent m).prev false q h.κ h.at_q
-        (λ z. let g₃ = mk (some p) (d.ent m).prev none (some q) false in (
+        (λ z. let g₃ = mk (Some p) (d.ent m).prev None (Some q) false in (
           _,
           assemble (upd gh₂ m g₃)
-              (rename slots₂ m g₃ cur_dup (λ κ. rw (upd_same (upd g.gh k gk₁) m gm₁, z) (cur_dup_eq (some p) (d.ent m).prev none (some q) false false κ)))
+              (rename slots₂ m g₃ cur_dup (λ κ. rw (upd_same (upd g.gh k gk₁) m gm₁, z) (cur_dup_eq (Some p) (d.ent m).prev None (Some q) false false κ)))
               (fits₂ g₃ (record {
                 curs = λ r e. let w : p ≡ r = cc in rw (← w, put_same d.tup p.bucket p.slot (d.tup f (n - 1))) (F-m.curs q z);
                 news = λ r e. clash (cc);
@@ -330,15 +330,15 @@ module _ {O : StoreOps} {S : Store O} {g : Ghost} {d : St} (I : Inv S g d) (l : 
               (Lowering.other ne (at_k g₃) (moved_cur (upd_same gh₂ m g₃))),
           effect h (upd gh₂ m g₃) (λ j κ mn r h₁ x o. at_or j m
               (λ y. main_or κ mn
-              (λ v. let x' : (g.gh m).cur ≡ some r = rw (y, v) at x in let x'' : (d.ent m).cur ≡ some r = rw h.gm at x' in
+              (λ v. let x' : (g.gh m).cur ≡ Some r = rw (y, v) at x in let x'' : (d.ent m).cur ≡ Some r = rw h.gm at x' in
               let u : r ≡ q = cc in goes_p g₃ κ mn j r h₁ y u (rw v) o)
-              (λ v. let x' : (g.gh m).prev ≡ some r = rw (y, v) at x in let x'' : (d.ent m).prev ≡ some r = rw h.gm at x' in goes_r g₃ κ mn j r h₁ y (rw v x') (rw v x'') o))
+              (λ v. let x' : (g.gh m).prev ≡ Some r = rw (y, v) at x in let x'' : (d.ent m).prev ≡ Some r = rw h.gm at x' in goes_r g₃ κ mn j r h₁ y (rw v x') (rw v x'') o))
               (λ y. others_go g₃ j κ mn r h₁ x o y)),
         ))
-        (λ z. let g₃ = mk (d.ent m).cur (some p) none (some q) false in (
+        (λ z. let g₃ = mk (d.ent m).cur (Some p) None (Some q) false in (
           _,
           assemble (upd gh₂ m g₃)
-              (rename slots₂ m g₃ prev_dup (λ κ. rw (upd_same (upd g.gh k gk₁) m gm₁, z) (prev_dup_eq (d.ent m).cur (some p) none (some q) false false κ)))
+              (rename slots₂ m g₃ prev_dup (λ κ. rw (upd_same (upd g.gh k gk₁) m gm₁, z) (prev_dup_eq (d.ent m).cur (Some p) None (Some q) false false κ)))
               (fits₂ g₃ (record {
                 curs = λ r e. rw (reads k_cur r (rw h.gm e)) (F-m.curs r e);
                 news = λ r e. clash (cc);
@@ -351,8 +351,8 @@ module _ {O : StoreOps} {S : Store O} {g : Ghost} {d : St} (I : Inv S g d) (l : 
               (Lowering.other ne (at_k g₃) (moved_prev (upd_same gh₂ m g₃))),
           effect h (upd gh₂ m g₃) (λ j κ mn r h₁ x o. at_or j m
               (λ y. main_or κ mn
-              (λ v. let x' : (g.gh m).cur ≡ some r = rw (y, v) at x in let x'' : (d.ent m).cur ≡ some r = rw h.gm at x' in goes_r g₃ κ mn j r h₁ y (rw v x') (rw v x'') o)
-              (λ v. let x' : (g.gh m).prev ≡ some r = rw (y, v) at x in let x'' : (d.ent m).prev ≡ some r = rw h.gm at x' in
+              (λ v. let x' : (g.gh m).cur ≡ Some r = rw (y, v) at x in let x'' : (d.ent m).cur ≡ Some r = rw h.gm at x' in goes_r g₃ κ mn j r h₁ y (rw v x') (rw v x'') o)
+              (λ v. let x' : (g.gh m).prev ≡ Some r = rw (y, v) at x in let x'' : (d.ent m).prev ≡ Some r = rw h.gm at x' in
               let u : r ≡ q = cc in goes_p g₃ κ mn j r h₁ y u (rw v) o))
               (λ y. others_go g₃ j κ mn r h₁ x o y)),
         ))

@@ -10,7 +10,7 @@
 use mathlib.Core.Path.{◌≡◌, refl, sym, ap, ◌∙◌}
 use mathlib.Core.Logic.{◌≢◌}
 use mathlib.Core.Bool.{Bool, true, false}
-use mathlib.Core.Option.{Option, none, some}
+use Rattle.std.specs.Prelude.{Option, None, Some}
 use Prim.Native.Nat.{ℕ, suc, ◌-◌, ◌<◌}
 use native.Mathlib.Omega.{arith}
 use lib.Dec.{T, lt→ltb, ltb, eqb, eqb→eq, eqb_refl}
@@ -57,21 +57,21 @@ clock_below {d} I l l< h = omega (arith, I.ticks.left, sum_term 8 (λ l. draws (
 pub clock< : {O : StoreOps} {S : Store O} {g : Ghost} {d : St} → Inv S g d → (l : ℕ) → l < 8 → 0 < draws (d.lanes l).stage → T (ltb d.clock 2147483647)
 clock< {d} I l l< h = lt→ltb d.clock 2147483647 (clock_below I l l< h)
 
-in_cell_yes : (o : Option Place) (c : ℕ) (p : Place) → place_in_cell o c ≡ some p → (o ≡ some p) × (p.cell ≡ c)
+in_cell_yes : (o : Option Place) (c : ℕ) (p : Place) → place_in_cell o c ≡ Some p → (o ≡ Some p) × (p.cell ≡ c)
 unfolding place_in_cell pick
-in_cell_yes none c p e = clash (cc)
-in_cell_yes (some r) c p e = go (eqb r.cell c) refl e
+in_cell_yes None c p e = clash (cc)
+in_cell_yes (Some r) c p e = go (eqb r.cell c) refl e
   where
-    go : (b : Bool) → eqb r.cell c ≡ b → pick b (some r) none ≡ some p → (some r ≡ some p) × (p.cell ≡ c)
+    go : (b : Bool) → eqb r.cell c ≡ b → pick b (Some r) None ≡ Some p → (Some r ≡ Some p) × (p.cell ≡ c)
     go true t z = let w : r ≡ p = cc in (z, rw (← w) (eqb→eq r.cell c (rw t tt)))
     go false t z = clash (cc)
 
-in_cell_no : (o : Option Place) (c : ℕ) → place_in_cell o c ≡ none → (q : Place) → o ≡ some q → q.cell ≢ c
+in_cell_no : (o : Option Place) (c : ℕ) → place_in_cell o c ≡ None → (q : Place) → o ≡ Some q → q.cell ≢ c
 unfolding place_in_cell pick
-in_cell_no none c e q z = clash (cc)
-in_cell_no (some r) c e q z = go (eqb r.cell c) refl e
+in_cell_no None c e q z = clash (cc)
+in_cell_no (Some r) c e q z = go (eqb r.cell c) refl e
   where
-    go : (b : Bool) → eqb r.cell c ≡ b → pick b (some r) none ≡ none → q.cell ≢ c
+    go : (b : Bool) → eqb r.cell c ≡ b → pick b (Some r) None ≡ None → q.cell ≢ c
     go true t z' = clash (cc)
     go false t z' = λ w. let x : r ≡ q = cc in let y : T (eqb r.cell c) = rw (x, w) (eqb_refl c) in rw t at y
 
@@ -105,12 +105,12 @@ module _ {O : StoreOps} {S : Store O} {g : Ghost} {d : St} (I : Inv S g d) (l : 
           owns = λ b l' c h ne z. refl;
           lanes = λ l' ne. upd_other d.lanes l _ l' ne;
         } in
-        let F : Fit d.tup (mk (d.ent k).cur (d.ent k).prev none none true) = rw w.1 at (I.fits.fit k) in
+        let F : Fit d.tup (mk (d.ent k).cur (d.ent k).prev None None true) = rw w.1 at (I.fits.fit k) in
         let inv : Inv S gg d₁ = record {
           links = I.links;
           full = I.full;
           stored = I.stored;
-          slots = retup (rename I.slots k g₁ stay (λ κ. rw w.1 (stay_eq (d.ent k).cur (d.ent k).prev none none false true κ))) (λ b c h i o lt. oids I q v t.0 refl b i);
+          slots = retup (rename I.slots k g₁ stay (λ κ. rw w.1 (stay_eq (d.ent k).cur (d.ent k).prev None None false true κ))) (λ b c h i o lt. oids I q v t.0 refl b i);
           fits = record {
             fit = λ j. at_or j k
                 (λ e. rw (e, upd_same g.gh k g₁) (record {
@@ -159,7 +159,7 @@ module _ {O : StoreOps} {S : Store O} {g : Ghost} {d : St} (I : Inv S g d) (l : 
     c = goal (d.lanes l)
 
     -- the new place is in the current cell
-    over : (p : Place) → (d.ent k).cur ≡ some p → g.gh k ≡ plain (d.ent k) → (d.ent k).prev ≡ none → p.cell ≡ c
+    over : (p : Place) → (d.ent k).cur ≡ Some p → g.gh k ≡ plain (d.ent k) → (d.ent k).prev ≡ None → p.cell ≡ c
         → Inv S g (put_lane l (d.lanes l) ReleaseObject (with_clock (with_tup d (put d.tup p.bucket p.slot (record { oid = (d.tup p.bucket p.slot).oid; x = (d.lanes l).x; y = (d.lanes l).y; tag = (d.lanes l).tag; time = pos (suc d.clock) }))) (suc d.clock)))
     unfolding Ok mv cl bk sel cel_held stage_holds_own mov_held filling draws
     over p pe gk np pc =
@@ -241,7 +241,7 @@ module _ {O : StoreOps} {S : Store O} {g : Ghost} {d : St} (I : Inv S g d) (l : 
     abbrev over_v : Place → Tuple
     over_v p = record { oid = (d.tup p.bucket p.slot).oid; x = (d.lanes l).x; y = (d.lanes l).y; tag = (d.lanes l).tag; time = pos (suc d.clock) }
 
-    own_cur : g.gh k ≡ plain (d.ent k) → (p : Place) → (d.ent k).cur ≡ some p → sel k_cur (g.gh k) ≡ some p
+    own_cur : g.gh k ≡ plain (d.ent k) → (p : Place) → (d.ent k).cur ≡ Some p → sel k_cur (g.gh k) ≡ Some p
     unfolding sel
     own_cur gk p e = rw gk e
 

@@ -2,7 +2,7 @@
 use mathlib.Core.Path.{◌≡◌, refl, ap, sym, ◌∙◌}
 use mathlib.Core.Logic.{◌≢◌}
 use mathlib.Core.Bool.{true, false}
-use mathlib.Core.Option.{none, some}
+use Rattle.std.specs.Prelude.{None, Some, Result as Ended, Ok, Err}
 use mathlib.Core.List.{List}
 use Prim.Native.Nat.{ℕ, ◌+◌, ◌<◌, ◌≤◌}
 use native.Mathlib.Omega.{arith}
@@ -15,7 +15,9 @@ use Rattle.stage.specs.Turn.{Move, turn_says, is_idle}
 use Rattle.stage.specs.declared.Stage.{Stage}
 use Rattle.stage.specs.declared.Updater.{Updater}
 use Rattle.stage.specs.declared.Turn.{Turn}
-use Rattle.stage.specs.declared.Turn.TheVariants.{Corrupt, Blocked, Advanced, Restarted, Finished}
+use Rattle.stage.specs.declared.Turn.TheVariants.{Advanced, Restarted, Finished}
+use Rattle.base.specs.declared.Stop.{Stop}
+use Rattle.base.specs.declared.Stop.TheVariants.{Corrupt, Blocked}
 use Rattle.words.specs.Map.{WORDS, TIMES}
 use Rattle.tables.specs.Tables.{Tables, right_lengths}
 use Rattle.tables.specs.Grid.{grid}
@@ -38,25 +40,25 @@ goes_on (on i) z = i
 goes_on (back i) z = i
 goes_on end z = absurd (omega arith)
 
-said_on : {B : Type 0} (o : Outcome (Move B)) (s : Stage) → Moves Moved o → turn_tells o ≡ said 0 (some s) → is_idle s ≡ false
+said_on : {B : Type 0} (o : Outcome (Move B)) (s : Stage) → Moves Moved o → turn_tells o ≡ said 0 (Some s) → is_idle s ≡ false
 unfolding turn_tells
-said_on corrupt s m e = let z : none ≡ some s = ap (λ (r : Said Stage). r.next) e in clash (cc)
-said_on blocked s m e = let z : none ≡ some s = ap (λ (r : Said Stage). r.next) e in clash (cc)
+said_on corrupt s m e = let z : None ≡ Some s = ap (λ (r : Said Stage). r.next) e in clash (cc)
+said_on blocked s m e = let z : None ≡ Some s = ap (λ (r : Said Stage). r.next) e in clash (cc)
 said_on (done d) s m e =
-    let z : some d.next ≡ some s = ap (λ (r : Said Stage). r.next) e in
+    let z : Some d.next ≡ Some s = ap (λ (r : Said Stage). r.next) e in
     let n : d.number ≡ 0 = ap (λ (r : Said Stage). r.number) e in
     let y : d.next ≡ s = cc in
     rw (← y) (goes_on (move_of m) n)
 
-stays : (t t' : Tables) (o : ℕ) (u u' : Updater) (r : Turn) (n : ℕ)
+stays : (t t' : Tables) (o : ℕ) (u u' : Updater) (r : Ended Turn Stop) (n : ℕ)
     → turned t (stage_on t o u u.stage) ≡ (turn_says r, t') → n ≡ (turn_says r).number → u' ≡ next_lanes u (with_stage u) (turn_says r).next
     → n ≡ 0 → is_idle u'.stage ≡ false
-stays t t' o u u' Corrupt n e en eu z = absurd (omega arith)
-stays t t' o u u' Blocked n e en eu z = absurd (omega arith)
-stays t t' o u u' Restarted n e en eu z = absurd (omega arith)
-stays t t' o u u' Finished n e en eu z = absurd (omega arith)
-stays t t' o u u' (Advanced s) n e en eu z =
-    let tells : turn_tells (stage_on t o u u.stage) ≡ said 0 (some s) = ap (λ (w : Said Stage × Tables). w.0) e in
+stays t t' o u u' (Err Corrupt) n e en eu z = absurd (omega arith)
+stays t t' o u u' (Err Blocked) n e en eu z = absurd (omega arith)
+stays t t' o u u' (Ok Restarted) n e en eu z = absurd (omega arith)
+stays t t' o u u' (Ok Finished) n e en eu z = absurd (omega arith)
+stays t t' o u u' (Ok (Advanced s)) n e en eu z =
+    let tells : turn_tells (stage_on t o u u.stage) ≡ said 0 (Some s) = ap (λ (w : Said Stage × Tables). w.0) e in
     rw eu (said_on (stage_on t o u u.stage) s (stage_moves t o u u.stage) tells)
 
 -- ---- the loop
@@ -65,14 +67,14 @@ abbrev steps : ℕ → Tables → Updater → Result Updater
 steps l t u = step_one t l u
 
 pub record Loop (l : ℕ) (w₀ : List ℕ) (x₀ : List ℤ) (n : ℕ) (u₀ : Updater) (w : List ℕ) (x : List ℤ) (u : Updater) (made : ℕ) : Type 0 where
-  pub same : length w ≡ length w₀
-  pub stamps : length x ≡ length x₀
+  pub long : length w ≡ WORDS
+  pub stamps : length x ≡ TIMES
   pub idle : is_idle u.stage ≡ false
   pub run : Running (steps l) n (grid w₀ x₀) u₀ (grid w x) u made
 
 module _ (l : ℕ) (w₀ : List ℕ) (x₀ : List ℤ) (n : ℕ) (u₀ : Updater) where
-  pub loop_first : is_idle u₀.stage ≡ false → Loop l w₀ x₀ n u₀ w₀ x₀ u₀ 0
-  loop_first i = record { same = refl; stamps = refl; idle = i; run = running_first (steps l) n (grid w₀ x₀) u₀ }
+  pub loop_first : length w₀ ≡ WORDS → length x₀ ≡ TIMES → is_idle u₀.stage ≡ false → Loop l w₀ x₀ n u₀ w₀ x₀ u₀ 0
+  loop_first w# x# i = record { long = w#; stamps = x#; idle = i; run = running_first (steps l) n (grid w₀ x₀) u₀ }
 
   module _ (w : List ℕ) (x : List ℤ) (u : Updater) (made : ℕ) (R : Loop l w₀ x₀ n u₀ w x u made) where
     pub loop_out : n ≤ made → run_one n l (grid w₀ x₀) u₀ ≡ ran_of 0 made (grid w x) u
@@ -80,11 +82,11 @@ module _ (l : ℕ) (w₀ : List ℕ) (x₀ : List ℤ) (n : ℕ) (u₀ : Updater
     loop_out h = running_out (steps l) n (grid w₀ x₀) u₀ (grid w x) u made R.run h
 
     -- a step
-    module _ (w# : length w₀ ≡ WORDS) (x# : length x₀ ≡ TIMES) (l< : l < 8) (r : Turn) (w' : List ℕ) (x' : List ℤ) (k : ℕ) (u' : Updater)
+    module _ (l< : l < 8) (r : Ended Turn Stop) (w' : List ℕ) (x' : List ℤ) (k : ℕ) (u' : Updater)
         (e : turned (grid w x) (stage_on (grid w x) (l + 1) u u.stage) ≡ (turn_says r, grid w' x'))
         (en : k ≡ (turn_says r).number) (eu : u' ≡ next_lanes u (with_stage u) (turn_says r).next) (more : made < n) where
       stepped_on : after (grid w x) u (step_one (grid w x) l u) ≡ after_of k (grid w' x') u'
-      stepped_on = step_stage (grid w x) l u (right_words_lem w x (R.same ∙ w#) (R.stamps ∙ x#)) l< R.idle r (grid w' x') k u' e en eu
+      stepped_on = step_stage (grid w x) l u (right_words_lem w x R.long R.stamps) l< R.idle r (grid w' x') k u' e en eu
 
       pub loop_ends : k ≢ 0 → (m : ℕ) → m ≡ carried_out k → run_one n l (grid w₀ x₀) u₀ ≡ ran_of k (made + m) (grid w' x') u'
       unfolding run_one
@@ -92,11 +94,11 @@ module _ (l : ℕ) (w₀ : List ℕ) (x₀ : List ℤ) (n : ℕ) (u₀ : Updater
           running_ends (steps l) n (grid w₀ x₀) u₀ (grid w x) u made R.run k (grid w' x') u' stepped_on more z
           ∙ ap (λ (j : ℕ). ran_of k (made + j) (grid w' x') u') (sym em)
 
-      pub loop_more : length w' ≡ length w → length x' ≡ length x → k ≡ 0 → Loop l w₀ x₀ n u₀ w' x' u' (made + 1)
-      loop_more s q z =
+      pub loop_more : length w' ≡ WORDS → length x' ≡ TIMES → k ≡ 0 → Loop l w₀ x₀ n u₀ w' x' u' (made + 1)
+      loop_more w# x# z =
           record {
-            same = s ∙ R.same;
-            stamps = q ∙ R.stamps;
+            long = w#;
+            stamps = x#;
             idle = stays (grid w x) (grid w' x') (l + 1) u u' r k e en eu z;
             run = running_more (steps l) n (grid w₀ x₀) u₀ (grid w x) u made R.run k (grid w' x') u' stepped_on more z;
           }

@@ -1,9 +1,8 @@
 // A run of an update: so many steps of one lane under one check, ended by the first number that is not 0. The lane is in locals.
 #![tactic(auto)]
 
-ghost use Rattle.std.specs.Prelude.{◌≡◌, false, ◌<◌, length};
+ghost use Rattle.std.specs.Prelude.{◌≡◌, false, ◌<◌};
 ghost use Rattle.base.specs.Lent.{lent};
-ghost use Rattle.words.specs.Map.{TIMES, WORDS};
 ghost use Rattle.stage.specs.Turn.{is_idle};
 ghost use Rattle.tables.specs.Promise.{OnGrid};
 ghost use Rattle.update_run.specs.Promise.{Runs};
@@ -11,10 +10,10 @@ ghost use Rattle.update_run.specs.Promise.{Runs};
 use base::{BLOCKED, CORRUPT, DONE, LANE_IDLE, NO_SUCH_LANE, UPDATER_COUNT};
 use calls::carried_out;
 use stage::Updater;
-use tables::lengths::right_words;
 use turns::step_stage;
 use updates::lanes::is_idle;
 use updates::step::end_step;
+use words::{TIMES, WORDS};
 
 // The number that a run gives, how many steps it carried out, and the lane afterwards.
 #[derive(Clone, Copy)]
@@ -25,8 +24,14 @@ pub struct Ran {
 }
 
 // Steps an update that is not idle, up to the first number that is not 0.
-fn run_on(u: Updater, lane: u32, words: &mut [u32], times: &mut [i32], budget: u32) -> Ran
-    requires { (length words.old ≡ WORDS) × (length times.old ≡ TIMES) × (lane < 8) × (is_idle u.stage ≡ false) }
+fn run_on(
+    u: Updater,
+    lane: u32,
+    words: &mut [u32; WORDS],
+    times: &mut [i32; TIMES],
+    budget: u32,
+) -> Ran
+    requires { (lane < 8) × (is_idle u.stage ≡ false) }
     ensures { OnGrid (lent words) (lent times) (Runs u lane budget result) }
 {
     let mut updater = u;
@@ -66,13 +71,20 @@ pub fn run_update(u: Updater, lane: u32, words: &mut [u32], times: &mut [i32], b
             updater: u,
         };
     }
-    if !right_words(words.len(), times.len()) {
+    let Some(words) = words.as_mut_array::<WORDS>() else {
         return Ran {
             number: CORRUPT,
             made: 0,
             updater: u,
         };
-    }
+    };
+    let Some(times) = times.as_mut_array::<TIMES>() else {
+        return Ran {
+            number: CORRUPT,
+            made: 0,
+            updater: u,
+        };
+    };
     if lane >= UPDATER_COUNT {
         return Ran {
             number: NO_SUCH_LANE,

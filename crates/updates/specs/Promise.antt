@@ -1,6 +1,7 @@
 -- WHAT THE CALLS OF UPDATES PROMISE, of the tables t as a call finds them and t' as it leaves them: the number, the tables and the lanes afterwards are
 -- those of the definition, for every content of the tables and every argument.
-use Rattle.std.specs.Prelude.{◌≡◌, List, ℕ}
+use Rattle.std.specs.Prelude.{◌≡◌, List, ℕ, Result}
+use Rattle.base.specs.declared.Stop.{Stop}
 use Rattle.tables.specs.Tables.{Tables}
 use Rattle.stage.specs.Turn.{turn_says}
 use Rattle.stage.specs.declared.Turn.{Turn}
@@ -27,6 +28,6 @@ abbrev pub StepsOne : Updater → ℕ → SteppedOne → Tables → Tables → T
 StepsOne u l r t t' = after t u (step_one t l u) ≡ after_of r.number t' r.updater
 
 -- the end of a step, from how its stage ended
-abbrev pub EndsTurn : Updater → Turn → SteppedOne → Type 0
+abbrev pub EndsTurn : Updater → Result Turn Stop → SteppedOne → Type 0
 EndsTurn u turn r =
     (r.number ≡ (turn_says turn).number) × (r.updater ≡ next_lanes u (with_stage u) (turn_says turn).next)

@@ -1,5 +1,5 @@
 // The start of an update (document 01: report start).
-ghost use Rattle.std.specs.Prelude.{◌≡◌, List, ℤ, length};
+ghost use Rattle.std.specs.Prelude.{◌≡◌, List, ℤ};
 ghost use Rattle.index.specs.Index.{enter};
 ghost use Rattle.index.specs.Search.{search};
 ghost use Rattle.tables.specs.Grid.{grid};
@@ -8,25 +8,22 @@ ghost use Rattle.updates.specs.Update.{search_has_room};
 ghost use Rattle.base.specs.Promise.{ChangesIn};
 ghost use Rattle.tables.specs.Promise.{OnGrid, OnWords};
 ghost use Rattle.updates.specs.Promise.{Starts, StartsOne};
-ghost use Rattle.words.specs.Map.{WORDS};
 ghost use Rattle.base.specs.Lent.{seen, lent};
 
 use crate::lanes::{Stepped, SteppedOne, is_idle};
 use base::{
-    CLOCK_EXHAUSTED, CLOCK_SPENT, CORRUPT, Change, DONE, GRID_FULL, LANE_TAKEN, LAST_TAG,
+    CLOCK_EXHAUSTED, CLOCK_SPENT, CORRUPT, Corrupt, DONE, GRID_FULL, LANE_TAKEN, LAST_TAG,
     MOST_OBJECTS, NO_OBJECT, NO_SUCH_LANE, OFF_GRID, TAG_OVER, UPDATER_COUNT,
 };
 use calls::no_lane;
 use index::search::{Search, count_known, enter_at};
 use layout::place::on_grid;
 use stage::{Stage, Updater};
-use tables::lengths::right_words;
 use tables::seek::seek_object;
-use words::{CLOCK, HITS, INDEX, LOCKS};
+use words::{CLOCK, HITS, INDEX, LOCKS, TIMES, WORDS};
 
 // Whether an object may be reported, whose search ended there: it is known, or fewer than 256 are.
-fn has_room(words: &[u32], s: Search) -> bool
-    requires { length words.now ≡ WORDS }
+fn has_room(words: &[u32; WORDS], s: Search) -> bool
     ensures { (ts : List ℤ) → search_has_room s (grid words.now ts).index.oid ≡ result }
 {
     let Search::Empty(_) = s else {
@@ -36,8 +33,8 @@ fn has_room(words: &[u32], s: Search) -> bool
 }
 
 // Enters an object where its search ended; leaves a known one as it is.
-fn enter_there(words: &mut [u32], s: Search, oid: u32) -> Change
-    requires { (length words.old ≡ WORDS) × ((ts : List ℤ) → search (grid words.old ts).index.oid oid ≡ s) }
+fn enter_there(words: &mut [u32; WORDS], s: Search, oid: u32) -> Result<(), Corrupt>
+    requires { (ts : List ℤ) → search (grid words.old ts).index.oid oid ≡ s }
     ensures { OnWords (lent words) (ChangesIn with_index (λ t. enter t.index oid) result) }
 {
     enter_at(&mut words[INDEX..HITS], s, oid)
@@ -56,7 +53,13 @@ pub fn start_one(
 ) -> SteppedOne
     ensures { OnGrid (lent words) (seen times) (StartsOne u lane oid x y tag result) }
 {
-    if !right_words(words.len(), times.len()) {
+    let Some(words) = words.as_mut_array::<WORDS>() else {
+        return SteppedOne {
+            number: CORRUPT,
+            updater: u,
+        };
+    };
+    if times.len() != TIMES {
         return SteppedOne {
             number: CORRUPT,
             updater: u,
@@ -106,8 +109,7 @@ pub fn start_one(
             updater: u,
         };
     }
-    let entered = enter_there(words, place, oid);
-    let Change::Done = entered else {
+    let Ok(()) = enter_there(words, place, oid) else {
         return SteppedOne {
             number: CORRUPT,
             updater: u,

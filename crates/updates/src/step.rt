@@ -6,11 +6,11 @@ ghost use Rattle.updates.specs.Promise.{EndsTurn, Steps, StepsOne};
 ghost use Rattle.tables.specs.Promise.{OnGrid};
 
 use crate::lanes::{Stepped, SteppedOne, is_idle};
-use base::{BLOCKED, CORRUPT, LANE_IDLE, NO_SUCH_LANE, UPDATER_COUNT};
+use base::{BLOCKED, CORRUPT, LANE_IDLE, NO_SUCH_LANE, Stop, UPDATER_COUNT};
 use calls::no_lane;
 use stage::{Stage, Turn, Updater};
-use tables::lengths::right_words;
 use turns::step_stage;
+use words::{TIMES, WORDS};
 
 // The update goes on to a stage.
 fn put_stage(u: Updater, number: u32, s: Stage) -> SteppedOne
@@ -27,21 +27,21 @@ fn put_stage(u: Updater, number: u32, s: Stage) -> SteppedOne
 }
 
 // What a step gives, from how its stage ended.
-pub fn end_step(u: Updater, turn: Turn) -> SteppedOne
+pub fn end_step(u: Updater, turn: Result<Turn, Stop>) -> SteppedOne
     ensures { EndsTurn u turn result }
 {
     match turn {
-        Turn::Corrupt => SteppedOne {
+        Err(Stop::Corrupt) => SteppedOne {
             number: CORRUPT,
             updater: u,
         },
-        Turn::Blocked => SteppedOne {
+        Err(Stop::Blocked) => SteppedOne {
             number: BLOCKED,
             updater: u,
         },
-        Turn::Advanced(s) => put_stage(u, 0, s),
-        Turn::Restarted => put_stage(u, 21, Stage::TakeObject),
-        Turn::Finished => put_stage(u, 22, Stage::Idle),
+        Ok(Turn::Advanced(s)) => put_stage(u, 0, s),
+        Ok(Turn::Restarted) => put_stage(u, 21, Stage::TakeObject),
+        Ok(Turn::Finished) => put_stage(u, 22, Stage::Idle),
     }
 }
 
@@ -49,12 +49,18 @@ pub fn end_step(u: Updater, turn: Turn) -> SteppedOne
 pub fn step_one(u: Updater, lane: u32, words: &mut [u32], times: &mut [i32]) -> SteppedOne
     ensures { OnGrid (lent words) (lent times) (StepsOne u lane result) }
 {
-    if !right_words(words.len(), times.len()) {
+    let Some(words) = words.as_mut_array::<WORDS>() else {
         return SteppedOne {
             number: CORRUPT,
             updater: u,
         };
-    }
+    };
+    let Some(times) = times.as_mut_array::<TIMES>() else {
+        return SteppedOne {
+            number: CORRUPT,
+            updater: u,
+        };
+    };
     if lane >= UPDATER_COUNT {
         return SteppedOne {
             number: NO_SUCH_LANE,

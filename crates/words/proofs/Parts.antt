@@ -1,14 +1,15 @@
 -- What a replaced part leaves as it was: every part before it and behind it.
 use mathlib.Core.Path.{◌≡◌, refl, sym, ap, ◌∙◌}
 use mathlib.Core.Bool.{Bool, true, false, ◌||◌}
-use mathlib.Core.List.{List, [], ◌∷◌, ◌++◌}
+use mathlib.Core.List.{List, ◌++◌}
 use Prim.Native.Nat.{ℕ, ◌+◌, ◌-◌, ◌≤◌, ◌<◌}
-use native.Mathlib.Nat.{zero-add, suc-add}
+use native.Mathlib.Nat.{zero-add}
 use native.Mathlib.Omega.{arith}
 use lib.Dec.{leb}
 use lib.ListN.{length, take, drop, set, get_or, length-set, length-drop, length-append, take-append-drop}
-use lib.Seq.{length-take-le, take-append-le, drop-append-le, drop-drop, take-add, take-take, take_at, drop_at, get_or-drop, get_or-take, drop-set-add, take-set-le, set-append_left}
+use lib.Seq.{length-take-le, take-append-le, drop-append-le, drop-drop, take-take, take_at, drop_at, get_or-drop, get_or-take, drop-set-add, take-set-le, set-append_left}
 use borrow.Author.Tests.{leb-true}
+use Rattle.std.proofs.lemmas.List.{drop-take, set-append_right}
 use Rattle.words.specs.Part.{part, put, store}
 
 module _ {A : Type 0} (l : List A) (a n : ℕ) (fits : a + n ≤ length l) where
@@ -98,18 +99,16 @@ module _ {A : Type 0} (l : List A) (i : ℕ) (x : A) where
 pub part_at : {A : Type 0} (l : List A) (a n i : ℕ) (d : A) → i < n → get_or (part a n l) i d ≡ get_or l (a + i) d
 part_at l a n i d h = get_or-take n (drop a l) i d h ∙ get_or-drop a l i d
 
--- a store behind the seam
-set-append-add : {A : Type 0} (xs ys : List A) (j : ℕ) (y : A) → set (xs ++ ys) (length xs + j) y ≡ xs ++ set ys j y
-set-append-add [] ys j y = ap (λ (k : ℕ). set ys k y) (zero-add j)
-set-append-add (x ∷ xs) ys j y = ap (λ (k : ℕ). set (x ∷ (xs ++ ys)) k y) (suc-add (length xs) j) ∙ ap (λ (r : List _). x ∷ r) (set-append-add xs ys j y)
-
 -- a number stored in a part that is put back, as the whole has it
 pub put-set : {A : Type 0} (l v : List A) (a n i : ℕ) (x : A) → a ≤ length l → length v ≡ n → i < n → put a n (set v i x) l ≡ set (put a n v l) (a + i) x
 put-set l v a n i x fits v# h =
-    let front : length (take a l) ≡ a = length-take-le a l fits in
-    ap (λ (r : List _). take a l ++ r) (sym (set-append_left v (drop n (drop a l)) i x (omega arith)))
-    ∙ sym (set-append-add (take a l) (v ++ drop n (drop a l)) i x)
-    ∙ ap (λ (k : ℕ). set (put a n v l) (k + i) x) front
+    let rest = v ++ drop n (drop a l) in
+    let z : a + i - a ≡ i = omega arith in
+    sym (
+    set-append_right (take a l) rest a (a + i) x (length-take-le a l fits) (omega arith)
+    ∙ ap (λ (k : ℕ). take a l ++ set rest k x) z
+    ∙ ap (λ (r : List _). take a l ++ r) (set-append_left v (drop n (drop a l)) i x (omega arith))
+    )
 
 pub store-set : {A : Type 0} (l : List A) (a n i : ℕ) (x : A) → a + n ≤ length l → i < n → store a n i x l ≡ set l (a + i) x
 store-set l a n i x fits h = put-set l (part a n l) a n i x (omega arith) (part_length l a n fits) h ∙ ap (λ (r : List _). set r (a + i) x) (put_part l a n)
@@ -134,11 +133,9 @@ module _ {A : Type 0} (l : List A) (a n : ℕ) (fits : a + n ≤ length l) (i : 
 pub part_part : {A : Type 0} (l : List A) (a n b m : ℕ) → a + n ≤ length l → b + m ≤ n → part b m (part a n l) ≡ part (a + b) m l
 part_part l a n b m fits h =
     let e : b + (n - b) ≡ n = omega arith in
-    let d = drop a l in
-    ap (λ (k : ℕ). part b m (take k d)) (sym e)
-    ∙ ap (part b m) (take-add b (n - b) d)
-    ∙ ap (take m) (drop_at (take b d) (take (n - b) (drop b d)) b (length-take-le b d (omega (arith, length-drop a l))))
-    ∙ take-take m (n - b) (drop b d) (omega arith)
+    ap (λ (k : ℕ). part b m (take k (drop a l))) (sym e)
+    ∙ ap (take m) (drop-take b (n - b) (drop a l))
+    ∙ take-take m (n - b) (drop b (drop a l)) (omega arith)
     ∙ ap (take m) (drop-drop b a l)
 
 -- a number of a part's first part, too

@@ -1,38 +1,33 @@
 -- look_last does what `stage3` says of all tables: one law of Steps.antt for each return, by what last_tuple and lock_other answered.
-use Rattle.cells.specs.Chain.{last_in}
-use Rattle.cells.proofs.Answers.{last_corrupt, last_at}
+use mathlib.Core.Path.{sym}
+use Rattle.std.proofs.Common.{rules}
+use Rattle.std.proofs.lemmas.Result.{err_from_is_err_and}
 use Rattle.tables.specs.Grid.{grid}
 use Rattle.acquire.proofs.Steps.{look_none, look_own, look_lost, look_back, look_took}
 use Rattle.acquire.proofs.look_last.Goals as goal
 
-pub returns-in_default : goal.returns-in_default
-returns-in_default c ts =
-    look_none (grid c.args.words.now ts) c.args.place c.args.oid c.args.owner
-    (last_corrupt (last_in _ _ _ _) _ (c.last_tuple-l.ensures ts) c.in_default.is)
+pub returns-in_err-last : goal.returns-in_err-last
+returns-in_err-last c ts =
+    let p = err_from_is_err_and c.from_residual.result c.from_residual.ensures.1 in
+    rw (p.1, p.2) (look_none (grid c.args.words.now ts) c.args.place c.args.oid c.args.owner (sym (c.in_err-last.ensures ts)))
 
-pub returns-then-moved-oid : goal.returns-then-moved-oid
-returns-then-moved-oid c ts =
+pub returns-then-last-oid : goal.returns-then-last-oid
+returns-then-last-oid c ts =
     look_own (grid c.args.words.now ts) c.args.place c.args.oid c.args.owner
-    c.in-At.last (last_at (last_in _ _ _ _) _ (c.last_tuple-l.ensures ts) _
-    c.in-At.is) c.if-moved-oid.true
+    c.in_ok-last.last (sym (c.in_ok-last.ensures ts)) c.if-last-oid.true
 
-pub returns-in-Corrupt : goal.returns-in-Corrupt
-returns-in-Corrupt c ts =
-    look_lost (grid c.args.words.now ts) c.args.place c.args.oid c.args.owner c.in-At.last
-    (last_at (last_in _ _ _ _) _ (c.last_tuple-l.ensures ts) _ c.in-At.is)
-    c.if-moved-oid.false (grid c.lock_other-taken.new.words ts) (c.lock_other-taken.ensures ts)
-    c.in-Corrupt.is
+pub returns-in-Ok : goal.returns-in-Ok
+returns-in-Ok c ts =
+    look_took (grid c.args.words.now ts) c.args.place c.args.oid c.args.owner
+    c.in_ok-last.last (sym (c.in_ok-last.ensures ts)) c.if-last-oid.false (grid c.lock_other.new.words ts) (c.lock_other.ensures ts) c.in-Ok.is
 
-pub returns-in-Blocked : goal.returns-in-Blocked
-returns-in-Blocked c ts =
-    look_back (grid c.args.words.now ts) c.args.place c.args.oid c.args.owner c.in-At.last
-    (last_at (last_in _ _ _ _) _ (c.last_tuple-l.ensures ts) _ c.in-At.is)
-    c.if-moved-oid.false (grid c.lock_other-taken.new.words ts) (c.lock_other-taken.ensures ts)
-    c.in-Blocked.is _ _ (c.go_back.ensures ts)
+pub returns-in-Err-Blocked : goal.returns-in-Err-Blocked
+returns-in-Err-Blocked c ts =
+    look_back (grid c.args.words.now ts) c.args.place c.args.oid c.args.owner
+    c.in_ok-last.last (sym (c.in_ok-last.ensures ts)) c.if-last-oid.false (grid c.lock_other.new.words ts) (c.lock_other.ensures ts)
+    (search rules) _ _ (c.go_back.ensures ts)
 
-pub returns-in-Done : goal.returns-in-Done
-returns-in-Done c ts =
-    look_took (grid c.args.words.now ts) c.args.place c.args.oid c.args.owner c.in-At.last
-    (last_at (last_in _ _ _ _) _ (c.last_tuple-l.ensures ts) _ c.in-At.is)
-    c.if-moved-oid.false (grid c.lock_other-taken.new.words ts) (c.lock_other-taken.ensures ts)
-    c.in-Done.is
+pub returns-in-Err-Corrupt : goal.returns-in-Err-Corrupt
+returns-in-Err-Corrupt c ts =
+    look_lost (grid c.args.words.now ts) c.args.place c.args.oid c.args.owner
+    c.in_ok-last.last (sym (c.in_ok-last.ensures ts)) c.if-last-oid.false (grid c.lock_other.new.words ts) (c.lock_other.ensures ts) (search rules)

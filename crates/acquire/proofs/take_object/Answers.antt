@@ -1,82 +1,49 @@
--- take_object does what `stage1` says of the index: as find_object, look_lock and read_place answer, then as hold_lock does.
-use mathlib.Core.Path.{ap, ◌∙◌}
+-- take_object does what `stage1` says of the index: as the search, look_lock and read_place answer, then as hold_lock does.
+use mathlib.Core.Path.{◌≡◌, sym, ◌∙◌}
 use native.Mathlib.Omega.{arith}
-use Rattle.base.specs.Outcome.{and_then, nothing}
-use Rattle.base.proofs.Outcome.{told_corrupt, told_blocked, told_done}
-use Rattle.base.specs.Answer.{attempt_says}
+use Rattle.std.proofs.lemmas.Result.{err_from_is_err_and}
+use Rattle.base.specs.Outcome.{and_then}
 use Rattle.base.specs.Step.{turn_tells, turn_leaves}
 use Rattle.words.specs.Map.{COUNT}
 use Rattle.words.proofs.Parts.{part_length}
-use Rattle.layout.proofs.Answers.{read_corrupt, read_nowhere, read_at}
-use Rattle.locks.specs.Lock.{look}
-use Rattle.index.specs.Places.{read_place}
-use Rattle.index.proofs.Probe.{answered as sought}
-use Rattle.stage.specs.Turn.{at_entry}
-use Rattle.acquire.specs.Acquire.{stage1}
-use Rattle.acquire.proofs.Landing.{moves, stays}
+use Rattle.stage.proofs.Entry.{entry_none, entry_at}
+use Rattle.acquire.specs.Acquire.{stage1, after_taking}
+use Rattle.acquire.proofs.Landing.{lock_free, lock_stopped, moves, stays}
 use Rattle.acquire.proofs.take_object.Goals as goal
+use Rattle.acquire.proofs.take_object.Goals.{in-None, in-Some}
 
 pub returns-in_default : goal.returns-in_default
-unfolding stage1 at_entry and_then turn_tells turn_leaves
-returns-in_default c =
-    stays c.args.index.now c.requires _ _ (rw (sought _ _ _ c.find_object-s.ensures
-    c.in_default.is))
+unfolding stage1 turn_tells turn_leaves
+returns-in_default c = stays c.args.index.now c.requires _ _ (rw (entry_none _ _ _ c.find_object.ensures c.in_default.is))
 
-pub returns-in-Corrupt : goal.returns-in-Corrupt
-unfolding stage1 at_entry and_then turn_tells turn_leaves
-returns-in-Corrupt c =
-    stays c.args.index.now c.requires _ _ (rw (
-      (sought _ _ _ c.find_object-s.ensures
-          c.in-Found.is),
-      told_corrupt nothing (look _ _)
-          (c.look_lock-free.ensures ∙ ap attempt_says c.in-Corrupt.is),
-    ))
+pub returns-in_err-look_lock : goal.returns-in_err-look_lock
+unfolding stage1
+returns-in_err-look_lock c =
+    let p = err_from_is_err_and c.from_residual.result c.from_residual.ensures.1 in
+    rw (p.1, p.2) (stays c.args.index.now c.requires _ _ (rw (entry_at _ _ _ c.find_object.ensures c.in-Found.is)
+    (lock_stopped _ _ _ _ c.in_err-look_lock.ensures)))
 
-pub returns-in-Blocked : goal.returns-in-Blocked
-unfolding stage1 at_entry and_then turn_tells turn_leaves
-returns-in-Blocked c =
-    stays c.args.index.now c.requires _ _ (rw (
-      (sought _ _ _ c.find_object-s.ensures
-          c.in-Found.is),
-      told_blocked nothing (look _ _)
-          (c.look_lock-free.ensures ∙ ap attempt_says c.in-Blocked.is),
-    ))
+pub returns-in_err-previous : goal.returns-in_err-previous
+unfolding stage1 and_then turn_tells turn_leaves
+returns-in_err-previous c =
+    let p = err_from_is_err_and c.from_residual-in_err-previous.result c.from_residual-in_err-previous.ensures.1 in
+    rw (p.1, p.2) (stays c.args.index.now c.requires _ _ (rw (
+      entry_at _ _ _ c.find_object.ensures c.in-Found.is,
+      (lock_free _ _ c.in_ok-look_lock.ensures).1,
+      sym c.in_err-previous.ensures,
+    )))
 
-pub returns-in-Corrupt-old : goal.returns-in-Corrupt-old
-unfolding stage1 at_entry and_then turn_tells turn_leaves
-returns-in-Corrupt-old c =
-    stays c.args.index.now c.requires _ _ (rw (
-      (sought _ _ _ c.find_object-s.ensures
-          c.in-Found.is),
-      (told_done nothing (look _ _)
-          (c.look_lock-free.ensures ∙ ap attempt_says c.in-Done.is)).1,
-      read_corrupt
-          (read_place _ _) _ c.read_place-old.ensures c.in-Corrupt-old.is,
-    ))
-
-pub returns-in-Nowhere : goal.returns-in-Nowhere
-unfolding stage1 at_entry and_then
-returns-in-Nowhere c =
+pub returns : goal.returns
+unfolding stage1 and_then
+returns c =
+    let n : c.match-previous.next ≡ after_taking c.in_ok-previous.previous = elim c.match-previous.branch [
+      | in-None w ↦ rw w.in-None.is w.next-is
+      | in-Some w ↦ rw w.in-Some.is w.next-is
+    ] in
     moves c.args.index.now c.requires _ _ c.hold_lock.new.locks
-    (c.hold_lock.auto.locks ∙ (part_length c.args.index.now COUNT 512
-    (omega (arith, c.requires)))) (rw (
-      (sought _ _ _ c.find_object-s.ensures c.in-Found.is),
-      (told_done nothing (look _ _) (c.look_lock-free.ensures ∙ ap attempt_says
-          c.in-Done.is)).1,
-      read_nowhere (read_place _ _) _
-          c.read_place-old.ensures c.in-Nowhere.is,
-    )
-    c.hold_lock.ensures)
-
-pub returns-in-At : goal.returns-in-At
-unfolding stage1 at_entry and_then
-returns-in-At c =
-    moves c.args.index.now c.requires _ _ c.hold_lock-in-At.new.locks
-    (c.hold_lock-in-At.auto.locks ∙ (part_length c.args.index.now COUNT 512
-    (omega (arith, c.requires)))) (rw (
-      (sought _ _ _ c.find_object-s.ensures c.in-Found.is),
-      (told_done nothing (look _ _) (c.look_lock-free.ensures ∙ ap attempt_says
-          c.in-Done.is)).1,
-      read_at (read_place _ _) _ _
-          c.read_place-old.ensures c.in-At.is,
-    ) c.hold_lock-in-At.ensures)
+    (c.hold_lock.auto.locks ∙ (part_length c.args.index.now COUNT 512 (omega (arith, c.requires)))) (rw (
+      entry_at _ _ _ c.find_object.ensures c.in-Found.is,
+      (lock_free _ _ c.in_ok-look_lock.ensures).1,
+      sym c.in_ok-previous.ensures,
+      ← n,
+    ) c.hold_lock.ensures)

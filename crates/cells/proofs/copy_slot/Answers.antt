@@ -1,4 +1,5 @@
 -- copy_slot does what copy_tuple does, seen on all tables.
+use Rattle.std.proofs.Common.{rules}
 use Rattle.base.specs.Outcome.{nothing}
 use Rattle.slots.specs.Tuple.{copy, tuples_at}
 use Rattle.tables.specs.Tables.{with_tuples}
@@ -14,7 +15,7 @@ returns c =
     within nothing (with_tuples (grid c.args.words.now c.args.times.now))
     (grid c.args.words.now c.args.times.now).tuples (copy _ _ _ _ _) _
     (tuples_at c.copy_tuple.new.tuples c.copy_tuple.new.times) _
-    c.copy_tuple.ensures (put_tuples c.args.words.now c.args.times.now c.requires.0
+    c.copy_tuple.ensures (put_tuples c.args.words.now c.args.times.now (search rules)
     c.copy_tuple.new.tuples c.copy_tuple.new.times
-    (tuples# c.args.words.now c.requires.0 c.copy_tuple.new.tuples
+    (tuples# c.args.words.now (search rules) c.copy_tuple.new.tuples
     c.copy_tuple.auto.tuples))

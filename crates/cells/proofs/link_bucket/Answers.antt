@@ -1,4 +1,5 @@
 -- link_bucket stores to three tables of the words: the law of Stored.antt.
+use Rattle.std.proofs.Common.{rules}
 use mathlib.Core.Path.{refl}
 use Prim.Native.Nat.{◌+◌}
 use native.Mathlib.Omega.{arith}
@@ -11,21 +12,21 @@ pub bounds-words-b-2 : goal.bounds-words-b-2
 bounds-words-b-2 c =
     omega (
       arith,
-      one# c.args.words.now c.requires.0 c.args.cell c.args.bucket
+      one# c.args.words.now (search rules) c.args.cell c.args.bucket
           (at c.args.words.now (FIRST + c.args.cell)),
-      c.requires.2,
+      c.requires.1,
     )
 
 pub bounds-words-at-2 : goal.bounds-words-at-2
 bounds-words-at-2 c =
     omega (
       arith,
-      two# c.args.words.now c.requires.0 c.args.cell c.args.bucket
+      two# c.args.words.now (search rules) c.args.cell c.args.bucket
           (at c.args.words.now (FIRST + c.args.cell)),
-      c.requires.1,
+      c.requires.0,
     )
 
 pub returns : goal.returns
 returns c ts =
-    stored_link c.args.words.now c.requires.0 c.args.cell c.args.bucket
-    (at c.args.words.now (FIRST + c.args.cell)) ts refl c.requires.1 c.requires.2
+    stored_link c.args.words.now (search rules) c.args.cell c.args.bucket
+    (at c.args.words.now (FIRST + c.args.cell)) ts refl c.requires.0 c.requires.1

@@ -4,7 +4,7 @@ use mathlib.Core.Logic.{◌≢◌}
 use Prim.Native.Nat.{ℕ, ◌+◌, ◌<◌, ◌≤◌}
 use native.Mathlib.Omega.{arith}
 use borrow.Author.Tests.{eq-eqb, le-leb, le-ltb, lt-leb, lt-ltb, ne_eqb}
-use Rattle.base.specs.Outcome.{need, pick}
+use Rattle.base.specs.Outcome.{need, pick, tells}
 use Rattle.base.specs.Table.{at}
 use Rattle.words.specs.Map.{FIRST}
 use Rattle.tables.proofs.Grid.{first_at, count_at}
@@ -16,11 +16,11 @@ short : {b : ℕ} → b ≤ 512 → b ≢ 512 → b < 512
 short h k = omega arith
 
 pub returns-then-cell-ge-CELL_COUNT : goal.returns-then-cell-ge-CELL_COUNT
-unfolding make_room need pick
+unfolding make_room need pick tells
 returns-then-cell-ge-CELL_COUNT c ts = refuses _ _ _ _ (rw (le-ltb _ _ c.if-cell-ge-CELL_COUNT.true))
 
 pub returns-then-bucket-gt-NO_BUCKET : goal.returns-then-bucket-gt-NO_BUCKET
-unfolding make_room need pick
+unfolding make_room need pick tells
 returns-then-bucket-gt-NO_BUCKET c ts =
     refuses _ _ _ _ (rw (
       lt-ltb _ _ c.if-cell-ge-CELL_COUNT.false,
@@ -30,7 +30,7 @@ returns-then-bucket-gt-NO_BUCKET c ts =
     ))
 
 pub returns-then-bucket-eq-NO_BUCKET : goal.returns-then-bucket-eq-NO_BUCKET
-unfolding make_room need pick
+unfolding make_room need pick tells
 returns-then-bucket-eq-NO_BUCKET c ts =
     rw (
       lt-ltb _ _ c.if-cell-ge-CELL_COUNT.false,
@@ -41,7 +41,7 @@ returns-then-bucket-eq-NO_BUCKET c ts =
     ) (c.push_bucket.ensures ts)
 
 pub returns-then-n-gt-BUCKET_SLOTS : goal.returns-then-n-gt-BUCKET_SLOTS
-unfolding make_room need pick
+unfolding make_room need pick tells
 returns-then-n-gt-BUCKET_SLOTS c ts =
     refuses _ _ _ _ (rw (
       lt-ltb _ _ c.if-cell-ge-CELL_COUNT.false,
@@ -56,7 +56,7 @@ returns-then-n-gt-BUCKET_SLOTS c ts =
     ))
 
 pub returns-then-n-eq-BUCKET_SLOTS : goal.returns-then-n-eq-BUCKET_SLOTS
-unfolding make_room need pick
+unfolding make_room need pick tells
 returns-then-n-eq-BUCKET_SLOTS c ts =
     rw (
       lt-ltb _ _ c.if-cell-ge-CELL_COUNT.false,
@@ -72,7 +72,7 @@ returns-then-n-eq-BUCKET_SLOTS c ts =
     (c.push_bucket-then-n-eq-BUCKET_SLOTS.ensures ts)
 
 pub returns : goal.returns
-unfolding make_room need pick
+unfolding make_room need pick tells
 returns c ts =
     comes _ _ _ _ _ _ (rw (
       lt-ltb _ _ c.if-cell-ge-CELL_COUNT.false,

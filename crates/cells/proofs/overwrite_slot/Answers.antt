@@ -1,4 +1,5 @@
 -- overwrite_slot does what overwrite_tuple does, seen on all tables.
+use Rattle.std.proofs.Common.{rules}
 use Rattle.base.specs.Outcome.{nothing}
 use Rattle.slots.specs.Tuple.{overwrite, tuples_at}
 use Rattle.tables.specs.Tables.{with_tuples}
@@ -15,7 +16,7 @@ returns c =
     (grid c.args.words.now c.args.times.now).tuples (overwrite _ _ _ _ _ _ _ _) _
     (tuples_at c.overwrite_tuple.new.tuples
     c.overwrite_tuple.new.times) _ c.overwrite_tuple.ensures
-    (put_tuples c.args.words.now c.args.times.now c.requires.0
+    (put_tuples c.args.words.now c.args.times.now (search rules)
     c.overwrite_tuple.new.tuples c.overwrite_tuple.new.times
-    (tuples# c.args.words.now c.requires.0 c.overwrite_tuple.new.tuples
+    (tuples# c.args.words.now (search rules) c.overwrite_tuple.new.tuples
     c.overwrite_tuple.auto.tuples))

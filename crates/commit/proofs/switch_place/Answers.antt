@@ -1,39 +1,43 @@
--- switch_place does what stage 12 says: one law for each return, by the end of the search and the answer of shift_entry.
-use mathlib.Core.Path.{◌∙◌}
+-- switch_place does what stage 12 says: as the search ends, by the test of the cell, then as shift_entry answers.
+use mathlib.Core.Path.{◌≡◌, sym}
+use Rattle.std.proofs.Common.{rules}
+use Rattle.std.proofs.lemmas.Result.{err_from_is_err_and}
 use Rattle.tables.specs.Grid.{grid}
-use Rattle.commit.proofs.Switching.{cells_there, switch_missing, switch_far, switch_lost, switch_nowhere, switch_at}
+use Rattle.tables.proofs.Grid.{set_cells}
+use Rattle.stage.proofs.Entry.{entry_is, entry_lost}
+use Rattle.commit.specs.Commit.{after_switching}
+use Rattle.commit.proofs.Switching.{cells_there, switch_missing, switch_far, switch_lost, switch_made}
 use Rattle.commit.proofs.switch_place.Goals as goal
+use Rattle.commit.proofs.switch_place.Goals.{in-None, in-Some}
 
-pub returns-in_default : goal.returns-in_default
-returns-in_default c ts =
-    switch_missing (grid c.args.words.now ts) c.args.place c.args.oid
-    (c.seek_object-s.ensures ts ∙ c.in_default.is)
+pub returns-in_err-i : goal.returns-in_err-i
+returns-in_err-i c ts =
+    let p = err_from_is_err_and c.from_residual.result c.from_residual.ensures.1 in
+    rw (p.1, p.2) (switch_missing (grid c.args.words.now ts) c.args.place c.args.oid
+    (entry_lost _ _ (sym (c.seek_object.ensures ts)) c.in_err-i.ensures).1)
 
-pub returns-then-cell-ge-CELL_COUNT : goal.returns-then-cell-ge-CELL_COUNT
-returns-then-cell-ge-CELL_COUNT c ts =
+pub returns-then-place-ge-CELL_COUNT : goal.returns-then-place-ge-CELL_COUNT
+returns-then-place-ge-CELL_COUNT c ts =
     switch_far (grid c.args.words.now ts) c.args.place c.args.oid
-    (c.seek_object-s.ensures ts ∙ c.in-Found.is)
-    (cells_there c.args.words.now ts c.requires) c.if-cell-ge-CELL_COUNT.true
+    (entry_is _ _ (sym (c.seek_object.ensures ts)) c.in_ok-i.ensures)
+    (cells_there c.args.words.now ts (search rules)) c.if-place-ge-CELL_COUNT.true
 
-pub returns-in-Corrupt : goal.returns-in-Corrupt
-returns-in-Corrupt c ts =
-    switch_lost (grid c.args.words.now ts) c.args.place c.args.oid
-    (c.seek_object-s.ensures ts ∙ c.in-Found.is)
-    (cells_there c.args.words.now ts c.requires) (grid c.shift_entry-old.new.words ts)
-    (c.shift_entry-old.ensures ts) c.in-Corrupt.is
+pub returns-in_err-old : goal.returns-in_err-old
+returns-in_err-old c ts =
+    let p = err_from_is_err_and c.from_residual-in_err-old.result c.from_residual-in_err-old.ensures.1 in
+    rw (p.1, p.2) (switch_lost (grid c.args.words.now ts) c.args.place c.args.oid
+    (entry_is _ _ (sym (c.seek_object.ensures ts)) c.in_ok-i.ensures)
+    (cells_there c.args.words.now ts (search rules)) (grid c.shift_entry.new.words ts)
+    (c.shift_entry.ensures ts) c.in_err-old.was)
 
-pub returns-in-Nowhere : goal.returns-in-Nowhere
-returns-in-Nowhere c ts =
-    switch_nowhere (grid c.args.words.now ts) c.args.place c.args.oid
-    (c.seek_object-s.ensures ts ∙ c.in-Found.is)
-    (cells_there c.args.words.now ts c.requires) (grid c.shift_entry-old.new.words ts)
-    (c.shift_entry-old.ensures ts) c.in-Nowhere.is c.if-cell-ge-CELL_COUNT.false _
-    (c.free_cell.ensures ts)
-
-pub returns-in-At : goal.returns-in-At
-returns-in-At c ts =
-    switch_at (grid c.args.words.now ts) c.args.place c.args.oid
-    (c.seek_object-s.ensures ts ∙ c.in-Found.is)
-    (cells_there c.args.words.now ts c.requires) (grid c.shift_entry-old.new.words ts)
-    (c.shift_entry-old.ensures ts) _ c.in-At.is c.if-cell-ge-CELL_COUNT.false _
-    (c.free_cell-in-At.ensures ts)
+pub returns : goal.returns
+returns c ts =
+    let n : c.match-old.next ≡ after_switching c.in_ok-old.old = elim c.match-old.branch [
+      | in-None w ↦ rw w.in-None.is w.next-is
+      | in-Some w ↦ rw w.in-Some.is w.next-is
+    ] in
+    rw n (switch_made (grid c.args.words.now ts) c.args.place c.args.oid
+    (entry_is _ _ (sym (c.seek_object.ensures ts)) c.in_ok-i.ensures)
+    (cells_there c.args.words.now ts (search rules)) (grid c.shift_entry.new.words ts)
+    (c.shift_entry.ensures ts) c.in_ok-old.was c.if-place-ge-CELL_COUNT.false _
+    (set_cells c.shift_entry.new.words ts (search rules) c.args.place.cell 0 c.if-place-ge-CELL_COUNT.false))

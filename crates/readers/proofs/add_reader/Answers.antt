@@ -1,56 +1,31 @@
--- add_reader does what `add_reader` says: one case for each return, by the tests that led there.
-use native.Mathlib.Omega.{arith}
-use Prim.Native.Nat.{◌+◌}
+-- add_reader does what `add_reader` says, by what room_at answered.
+use Rattle.std.proofs.Common.{arith, rules, ◌+◌}
+use mathlib.Core.Path.{sym}
+use Rattle.base.specs.Outcome.{outcome_map, leaves}
 use Rattle.base.specs.Table.{at}
-use Rattle.words.specs.Map.{COUNT, READERS}
-use borrow.Author.Tests.{le-leb, le-ltb, lt-leb, lt-ltb}
-use Rattle.base.specs.Outcome.{need, tells, leaves}
-use Rattle.words.proofs.Parts.{part_at, store-set}
-use Rattle.readers.specs.Reader.{add_reader}
+use Rattle.base.proofs.Answer.{mapped_corrupt}
+use Rattle.words.specs.Map.{READERS}
+use Rattle.words.specs.Words.{count_in, readers_in}
+use Rattle.std.proofs.lemmas.Result.{err_from_is_err_and}
+use Rattle.readers.specs.Reader.{Reading, add_reader}
+use Rattle.readers.proofs.Leaving.{added_lem, readers_at, stored}
 use Rattle.readers.proofs.add_reader.Goals as goal
 
-pub returns-then-bucket-ge-BUCKET_COUNT : goal.returns-then-bucket-ge-BUCKET_COUNT
-unfolding add_reader need tells leaves
-returns-then-bucket-ge-BUCKET_COUNT c = rw (le-ltb _ _ c.if-bucket-ge-BUCKET_COUNT.true)
+pub returns-in_err-standing : goal.returns-in_err-standing
+unfolding outcome_map leaves
+returns-in_err-standing c =
+    let p = err_from_is_err_and c.from_residual.result c.from_residual.ensures.1 in
+    rw (p.1, mapped_corrupt (λ (d : Reading). d.standing) (add_reader (count_in c.args.words.now) (readers_in c.args.words.now) c.args.bucket) (sym c.in_err-standing.ensures))
 
-pub returns-then-n-ge-QUERY_COUNT : goal.returns-then-n-ge-QUERY_COUNT
-unfolding add_reader need tells leaves
-returns-then-n-ge-QUERY_COUNT c =
-    let s = c.before.before.before in
-    rw (
-      lt-ltb _ _ c.if-bucket-ge-BUCKET_COUNT.false,
-      part_at s.args.words.now READERS 512 s.args.bucket 0
-          c.if-bucket-ge-BUCKET_COUNT.false,
-      le-ltb _ _ c.if-n-ge-QUERY_COUNT.true,
-    )
-
-pub returns-then-left-gt-BUCKET_SLOTS : goal.returns-then-left-gt-BUCKET_SLOTS
-unfolding add_reader need tells leaves
-returns-then-left-gt-BUCKET_SLOTS c =
-    let at-if1 = c.before.before.before.before in
-    let s = at-if1.before in
-    rw (
-      lt-ltb _ _ at-if1.if-bucket-ge-BUCKET_COUNT.false,
-      part_at s.args.words.now READERS 512 s.args.bucket 0
-          at-if1.if-bucket-ge-BUCKET_COUNT.false,
-      part_at s.args.words.now COUNT 512 s.args.bucket 0 at-if1.if-bucket-ge-BUCKET_COUNT.false,
-      lt-ltb _ _ c.if-n-ge-QUERY_COUNT.false,
-      lt-leb _ _ c.if-left-gt-BUCKET_SLOTS.true,
-    )
+pub overflow_add-words-2 : goal.overflow_add-words-2
+overflow_add-words-2 c =
+    let d = added_lem (count_in c.args.words.now) (readers_in c.args.words.now) c.args.bucket _ c.in_ok-standing.ensures in
+    omega (arith, readers_at c.args.words.now c.args.bucket d.0)
 
 pub returns : goal.returns
-unfolding add_reader need tells leaves
+unfolding outcome_map leaves
 returns c =
-    let at-if1 = c.before.before.before.before in
-    let s = at-if1.before in
-    rw (
-      lt-ltb _ _ at-if1.if-bucket-ge-BUCKET_COUNT.false,
-      part_at s.args.words.now READERS 512 s.args.bucket 0
-          at-if1.if-bucket-ge-BUCKET_COUNT.false,
-      part_at s.args.words.now COUNT 512 s.args.bucket 0 at-if1.if-bucket-ge-BUCKET_COUNT.false,
-      lt-ltb _ _ c.if-n-ge-QUERY_COUNT.false,
-      le-leb _ _ c.if-left-gt-BUCKET_SLOTS.false,
-      store-set s.args.words.now
-          READERS 512 s.args.bucket (at s.args.words.now (READERS + s.args.bucket) + 1)
-          (omega (arith, s.requires)) at-if1.if-bucket-ge-BUCKET_COUNT.false,
-    )
+    let w = c.args.words.now in
+    let b = c.args.bucket in
+    let d = added_lem (count_in w) (readers_in w) b _ c.in_ok-standing.ensures in
+    rw (d.2, readers_at w b d.0, stored w b d.0 (search rules) (at w (READERS + b) + 1))

@@ -1,122 +1,64 @@
--- leave_for does what `leave_for` says: one law for each return. Where the next bucket is this one, the two stores undo each other.
-use native.Mathlib.Omega.{arith}
-use lib.ListN.{length-set}
-use Rattle.base.specs.Outcome.{tells, leaves}
-use Rattle.words.specs.Map.{COUNT, READERS}
+-- leave_for does what `leave_for` says, by what room_at and has_reader answered. Where the next bucket is this one, the two stores undo each other.
+use Rattle.std.proofs.Common.{arith, rules, ◌+◌, ◌-◌}
+use mathlib.Core.Path.{sym}
+use Rattle.base.specs.Outcome.{outcome_map, leaves}
+use Rattle.base.specs.Table.{at}
+use Rattle.base.proofs.Answer.{mapped_corrupt}
+use Rattle.words.specs.Map.{READERS}
 use Rattle.words.specs.Words.{count_in, readers_in}
-use Rattle.words.proofs.Parts.{part_length, put_part, part_at}
-use Rattle.readers.proofs.Leaving.{leave_none_there, leave_full, leave_wide, leave_none_here, leave_same, leave_none, leave_many, leave_on_lem}
-use Rattle.readers.proofs.Stored.{stored_twice}
+use Rattle.words.proofs.Parts.{part_length, put_part}
+use Rattle.std.proofs.lemmas.Result.{err_from_is_err_and}
+use Rattle.readers.specs.Reader.{add_reader, take_reader}
+use Rattle.readers.proofs.Leaving.{added_lem, taken, readers_at, stored_twice, beside, leave_off, leave_same, leave_none, leave_on_lem}
 use Rattle.readers.proofs.leave_for.Goals as goal
 
-pub returns-then-below-ge-BUCKET_COUNT : goal.returns-then-below-ge-BUCKET_COUNT
-unfolding tells leaves
-returns-then-below-ge-BUCKET_COUNT c =
-    let s = c.before in
-    rw (leave_none_there (count_in s.args.words.now) (readers_in s.args.words.now) s.args.bucket
-    s.args.below c.if-below-ge-BUCKET_COUNT.true)
+pub returns-in_err-standing : goal.returns-in_err-standing
+unfolding outcome_map leaves
+returns-in_err-standing c =
+    let w = c.args.words.now in
+    let p = err_from_is_err_and c.from_residual.result c.from_residual.ensures.1 in
+    rw (p.1, leave_off (count_in w) (readers_in w) c.args.bucket c.args.below (mapped_corrupt _ (add_reader (count_in w) (readers_in w) c.args.below) (sym c.in_err-standing.ensures)))
 
-pub returns-then-more-ge-QUERY_COUNT : goal.returns-then-more-ge-QUERY_COUNT
-unfolding tells leaves
-returns-then-more-ge-QUERY_COUNT c =
-    let s = c.before.before.before in
-    rw (leave_full (count_in s.args.words.now) (readers_in s.args.words.now) s.args.bucket
-    s.args.below c.if-below-ge-BUCKET_COUNT.false (rw (part_at s.args.words.now READERS 512
-    s.args.below 0 c.if-below-ge-BUCKET_COUNT.false) c.if-more-ge-QUERY_COUNT.true))
+pub returns-then-bucket-below : goal.returns-then-bucket-below
+unfolding outcome_map leaves
+returns-then-bucket-below c =
+    let w = c.args.words.now in
+    let d = added_lem (count_in w) (readers_in w) c.args.below _ c.in_ok-standing.ensures in
+    rw (leave_same (count_in w) (readers_in w) c.args.bucket c.args.below _ d.0 d.1 d.2 (part_length w READERS 512 (omega arith)) c.if-bucket-below.true, put_part w READERS 512)
 
-pub returns-then-left-gt-BUCKET_SLOTS : goal.returns-then-left-gt-BUCKET_SLOTS
-unfolding tells leaves
-returns-then-left-gt-BUCKET_SLOTS c =
-    let at-if1 = c.before.before.before.before in
-    let s = at-if1.before in
-    rw (leave_wide (count_in s.args.words.now) (readers_in s.args.words.now) s.args.bucket
-    s.args.below at-if1.if-below-ge-BUCKET_COUNT.false (rw (part_at s.args.words.now READERS 512 s.args.below 0
-    at-if1.if-below-ge-BUCKET_COUNT.false) c.if-more-ge-QUERY_COUNT.false)
-    (rw (part_at s.args.words.now COUNT 512 s.args.below 0 at-if1.if-below-ge-BUCKET_COUNT.false) c.if-left-gt-BUCKET_SLOTS.true))
+pub returns-in_err-has_reader : goal.returns-in_err-has_reader
+unfolding outcome_map leaves
+returns-in_err-has_reader c =
+    let w = c.args.words.now in
+    let d = added_lem (count_in w) (readers_in w) c.args.below _ c.in_ok-standing.ensures in
+    let p = err_from_is_err_and c.from_residual-in_err-has_reader.result c.from_residual-in_err-has_reader.ensures.1 in
+    rw (p.1, leave_none (count_in w) (readers_in w) c.args.bucket c.args.below _ d.0 d.1 d.2 c.if-bucket-below.false (mapped_corrupt _ (take_reader (readers_in w) c.args.bucket) (sym c.in_err-has_reader.ensures)))
 
-pub returns-then-bucket-ge-BUCKET_COUNT : goal.returns-then-bucket-ge-BUCKET_COUNT
-unfolding tells leaves
-returns-then-bucket-ge-BUCKET_COUNT c =
-    let at-if2 = c.before.before.before in
-    let at-if1 = at-if2.before.before in
-    let s = at-if1.before in
-    rw (leave_none_here (count_in s.args.words.now) (readers_in s.args.words.now) s.args.bucket
-    s.args.below at-if1.if-below-ge-BUCKET_COUNT.false (rw (part_at s.args.words.now READERS 512 s.args.below 0
-    at-if1.if-below-ge-BUCKET_COUNT.false) at-if2.if-more-ge-QUERY_COUNT.false) (rw (part_at s.args.words.now COUNT 512 s.args.below 0
-    at-if1.if-below-ge-BUCKET_COUNT.false) c.if-left-gt-BUCKET_SLOTS.false) c.if-bucket-ge-BUCKET_COUNT.true)
+pub overflow_add-words : goal.overflow_add-words
+overflow_add-words c =
+    let d = added_lem (count_in c.args.words.now) (readers_in c.args.words.now) c.args.below _ c.in_ok-standing.ensures in
+    omega (arith, readers_at c.args.words.now c.args.below d.0)
 
-pub returns-then-b-n : goal.returns-then-b-n
-unfolding tells leaves
-returns-then-b-n c =
-    let at-if2 = c.before.before.before.before in
-    let at-if1 = at-if2.before.before in
-    let s = at-if1.before in
-    rw (
-      leave_same (count_in s.args.words.now) (readers_in s.args.words.now) s.args.bucket
-          s.args.below at-if1.if-below-ge-BUCKET_COUNT.false (rw (part_at s.args.words.now READERS 512 s.args.below 0
-          at-if1.if-below-ge-BUCKET_COUNT.false) at-if2.if-more-ge-QUERY_COUNT.false) (rw (part_at s.args.words.now COUNT 512 s.args.below 0
-          at-if1.if-below-ge-BUCKET_COUNT.false) c.if-left-gt-BUCKET_SLOTS.false) c.if-bucket-ge-BUCKET_COUNT.false
-          (part_length s.args.words.now READERS 512 (omega (arith, s.requires))) c.if-b-n.true,
-      put_part
-          s.args.words.now READERS 512,
-      part_at s.args.words.now COUNT 512 s.args.below 0
-          at-if1.if-below-ge-BUCKET_COUNT.false,
-    )
-
-pub returns-then-less-eq0 : goal.returns-then-less-eq0
-unfolding tells leaves
-returns-then-less-eq0 c =
-    let at-if4 = c.before.before.before in
-    let at-if3 = at-if4.before in
-    let at-if2 = at-if3.before.before in
-    let at-if1 = at-if2.before.before in
-    let s = at-if1.before in
-    rw (leave_none (count_in s.args.words.now) (readers_in s.args.words.now) s.args.bucket
-    s.args.below at-if1.if-below-ge-BUCKET_COUNT.false (rw (part_at s.args.words.now READERS 512 s.args.below 0
-    at-if1.if-below-ge-BUCKET_COUNT.false) at-if2.if-more-ge-QUERY_COUNT.false) (rw (part_at s.args.words.now COUNT 512 s.args.below 0
-    at-if1.if-below-ge-BUCKET_COUNT.false) at-if3.if-left-gt-BUCKET_SLOTS.false) at-if4.if-bucket-ge-BUCKET_COUNT.false c.if-b-n.false
-    (rw (part_at s.args.words.now READERS 512 s.args.bucket 0 at-if4.if-bucket-ge-BUCKET_COUNT.false) c.if-less-eq0.true))
-
-pub returns-then-less-gt-QUERY_COUNT : goal.returns-then-less-gt-QUERY_COUNT
-unfolding tells leaves
-returns-then-less-gt-QUERY_COUNT c =
-    let at-if5 = c.before.before.before in
-    let at-if4 = at-if5.before in
-    let at-if3 = at-if4.before in
-    let at-if2 = at-if3.before.before in
-    let at-if1 = at-if2.before.before in
-    let s = at-if1.before in
-    rw (leave_many (count_in s.args.words.now) (readers_in s.args.words.now) s.args.bucket
-    s.args.below at-if1.if-below-ge-BUCKET_COUNT.false (rw (part_at s.args.words.now READERS 512 s.args.below 0
-    at-if1.if-below-ge-BUCKET_COUNT.false) at-if2.if-more-ge-QUERY_COUNT.false) (rw (part_at s.args.words.now COUNT 512 s.args.below 0
-    at-if1.if-below-ge-BUCKET_COUNT.false) at-if3.if-left-gt-BUCKET_SLOTS.false) at-if4.if-bucket-ge-BUCKET_COUNT.false at-if5.if-b-n.false
-    (rw (part_at s.args.words.now READERS 512 s.args.bucket 0 at-if4.if-bucket-ge-BUCKET_COUNT.false) c.if-less-gt-QUERY_COUNT.true))
-
-pub bounds-words-b-2 : goal.bounds-words-b-2
-bounds-words-b-2 c = rw length-set (omega arith)
+pub overflow_sub-words : goal.overflow_sub-words
+overflow_sub-words c =
+    let w = c.args.words.now in
+    let n = c.args.below in
+    let b = c.args.bucket in
+    let d = added_lem (count_in w) (readers_in w) n _ c.in_ok-standing.ensures in
+    let t = taken (readers_in w) b _ _ c.in_ok-has_reader.ensures in
+    rw (beside w n b d.0 t.0 c.if-bucket-below.false) (omega arith)
 
 pub returns : goal.returns
-unfolding tells leaves
+unfolding outcome_map leaves
 returns c =
-    let at-if5 = c.before.before.before in
-    let at-if4 = at-if5.before in
-    let at-if3 = at-if4.before in
-    let at-if2 = at-if3.before.before in
-    let at-if1 = at-if2.before.before in
-    let s = at-if1.before in
+    let w = c.args.words.now in
+    let n = c.args.below in
+    let b = c.args.bucket in
+    let d = added_lem (count_in w) (readers_in w) n _ c.in_ok-standing.ensures in
+    let t = taken (readers_in w) b _ _ c.in_ok-has_reader.ensures in
     rw (
-      leave_on_lem (count_in s.args.words.now) (readers_in s.args.words.now) s.args.bucket
-          s.args.below at-if1.if-below-ge-BUCKET_COUNT.false (rw (part_at s.args.words.now READERS 512 s.args.below 0
-          at-if1.if-below-ge-BUCKET_COUNT.false) at-if2.if-more-ge-QUERY_COUNT.false) (rw (part_at s.args.words.now COUNT 512 s.args.below 0
-          at-if1.if-below-ge-BUCKET_COUNT.false) at-if3.if-left-gt-BUCKET_SLOTS.false) at-if4.if-bucket-ge-BUCKET_COUNT.false at-if5.if-b-n.false
-          (rw (part_at s.args.words.now READERS 512 s.args.bucket 0 at-if4.if-bucket-ge-BUCKET_COUNT.false)
-          c.if-less-eq0.false) (rw (part_at s.args.words.now READERS 512 s.args.bucket 0
-          at-if4.if-bucket-ge-BUCKET_COUNT.false) c.if-less-gt-QUERY_COUNT.false),
-      part_at s.args.words.now READERS 512 s.args.below 0
-          at-if1.if-below-ge-BUCKET_COUNT.false,
-      part_at s.args.words.now READERS 512 s.args.bucket 0 at-if4.if-bucket-ge-BUCKET_COUNT.false,
-      part_at s.args.words.now COUNT 512 s.args.below 0 at-if1.if-below-ge-BUCKET_COUNT.false,
-      stored_twice
-          s.args.words.now s.args.below s.args.bucket _ _ s.requires at-if1.if-below-ge-BUCKET_COUNT.false
-          at-if4.if-bucket-ge-BUCKET_COUNT.false,
+      leave_on_lem (count_in w) (readers_in w) b n _ d.0 d.1 d.2 c.if-bucket-below.false t.0 t.1 t.2,
+      readers_at w n d.0,
+      beside w n b d.0 t.0 c.if-bucket-below.false (at w (READERS + n) + 1),
+      stored_twice w n b d.0 t.0 (search rules) (at w (READERS + n) + 1) (at (readers_in w) b - 1),
     )

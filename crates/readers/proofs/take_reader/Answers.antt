@@ -1,41 +1,31 @@
--- take_reader does what `take_reader` says: one case for each return, by the tests that led there.
-use native.Mathlib.Omega.{arith}
+-- take_reader does what `take_reader` says, by what has_reader answered.
+use Rattle.std.proofs.Common.{arith, rules, ◌+◌, ◌-◌}
+use mathlib.Core.Path.{sym}
 use Rattle.base.specs.Outcome.{tells, leaves}
+use Rattle.base.specs.Table.{at}
+use Rattle.base.proofs.Answer.{mapped_corrupt}
 use Rattle.words.specs.Map.{READERS}
 use Rattle.words.specs.Words.{readers_in}
-use Rattle.words.proofs.Parts.{part_at, store-set}
-use Rattle.readers.proofs.Leaving.{less, less_none, less_many, less_off}
+use Rattle.std.proofs.lemmas.Result.{err_from_is_err_and}
+use Rattle.readers.specs.Reader.{take_reader}
+use Rattle.readers.proofs.Leaving.{taken, readers_at, stored}
 use Rattle.readers.proofs.take_reader.Goals as goal
 
-pub returns-then-bucket-ge-BUCKET_COUNT : goal.returns-then-bucket-ge-BUCKET_COUNT
+pub returns-in_err-has_reader : goal.returns-in_err-has_reader
 unfolding tells leaves
-returns-then-bucket-ge-BUCKET_COUNT c = rw (less_off _ _ c.if-bucket-ge-BUCKET_COUNT.true)
+returns-in_err-has_reader c =
+    let p = err_from_is_err_and c.from_residual.result c.from_residual.ensures.1 in
+    rw (p.1, mapped_corrupt _ (take_reader (readers_in c.args.words.now) c.args.bucket) (sym c.in_err-has_reader.ensures))
 
-pub returns-then-n-eq0 : goal.returns-then-n-eq0
-unfolding tells leaves
-returns-then-n-eq0 c =
-    let s = c.before.before.before in
-    rw (less_none (readers_in s.args.words.now) s.args.bucket _ c.if-bucket-ge-BUCKET_COUNT.false
-    (part_at s.args.words.now READERS 512 s.args.bucket 0 c.if-bucket-ge-BUCKET_COUNT.false)
-    c.if-n-eq0.true)
-
-pub returns-then-n-gt-QUERY_COUNT : goal.returns-then-n-gt-QUERY_COUNT
-unfolding tells leaves
-returns-then-n-gt-QUERY_COUNT c =
-    let at-if1 = c.before.before.before in
-    let s = at-if1.before in
-    rw (less_many (readers_in s.args.words.now) s.args.bucket _ at-if1.if-bucket-ge-BUCKET_COUNT.false
-    (part_at s.args.words.now READERS 512 s.args.bucket 0 at-if1.if-bucket-ge-BUCKET_COUNT.false) c.if-n-gt-QUERY_COUNT.true)
+pub overflow_sub-words : goal.overflow_sub-words
+overflow_sub-words c =
+    let d = taken (readers_in c.args.words.now) c.args.bucket _ _ c.in_ok-has_reader.ensures in
+    omega (arith, readers_at c.args.words.now c.args.bucket d.0)
 
 pub returns : goal.returns
 unfolding tells leaves
 returns c =
-    let at-if1 = c.before.before.before in
-    let s = at-if1.before in
-    rw (
-      less (readers_in s.args.words.now) s.args.bucket _ at-if1.if-bucket-ge-BUCKET_COUNT.false
-          (part_at s.args.words.now READERS 512 s.args.bucket 0 at-if1.if-bucket-ge-BUCKET_COUNT.false)
-          c.if-n-eq0.false c.if-n-gt-QUERY_COUNT.false,
-      store-set s.args.words.now READERS 512 s.args.bucket _
-          (omega (arith, s.requires)) at-if1.if-bucket-ge-BUCKET_COUNT.false,
-    )
+    let w = c.args.words.now in
+    let b = c.args.bucket in
+    let d = taken (readers_in w) b _ _ c.in_ok-has_reader.ensures in
+    rw (d.3, readers_at w b d.0, stored w b d.0 (search rules) (at w (READERS + b) - 1))

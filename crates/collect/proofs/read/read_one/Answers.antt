@@ -1,40 +1,27 @@
--- read_one does what `read_one_into` says: a law of Asked.antt for each answer of `admit`, and the list is as write_entries leaves it.
-use mathlib.Core.Path.{◌≡◌, refl, ◌∙◌}
-use native.Mathlib.Omega.{arith}
-use lib.ListN.{length}
-use Rattle.words.specs.Map.{HITS, HITS-SIZE, WORDS}
-use Rattle.words.specs.Words.{hits_in}
-use Rattle.hits.specs.Hits.{hits_at}
+-- read_one does what `read_one_into` says: a law of Asked.antt for each answer of `admit`, and the list is as
+-- write_entries leaves it.
+use Rattle.std.proofs.Common.{arith}
+use Rattle.words.specs.Map.{HITS, HITS-SIZE}
 use Rattle.tables.specs.Grid.{grid}
-use Rattle.tables.proofs.Grid.{words_said, long}
-use Rattle.collect.proofs.Asked.{Passed, accepted_passed, handed_none, handed_over}
-use Rattle.calls.proofs.Sized.{sized}
+use Rattle.tables.proofs.Grid.{long}
+use Rattle.calls.proofs.Sized.{sized, as_long}
+use Rattle.collect.proofs.Asked.{passed, into_refused, into_accepted}
 use Rattle.collect.proofs.read.read_one.Goals as goal
-
-pub slice_bounds-write_entries-end : goal.slice_bounds-write_entries-end
-slice_bounds-write_entries-end c =
-    let accepted : Passed c.right_words-right.result c.args.lane (length c.args.out.now) c.in-Accepted.found = accepted_passed _ _ _ _ _ c.admit-admission.ensures _ c.in-Accepted.is in
-    let lent : length c.args.words.now ≡ WORDS = (words_said c.args.words.now c.args.times.now (sized c.args.words.now c.args.times.now c.right_words-right.ensures ∙ accepted.sizes)).0 in
-    omega (arith, lent)
 
 pub write_entries-requires : goal.write_entries-requires
 write_entries-requires c =
-    let accepted : Passed c.right_words-right.result c.args.lane (length c.args.out.now) c.in-Accepted.found = accepted_passed _ _ _ _ _ c.admit-admission.ensures _ c.in-Accepted.is in
-    let lent : length c.args.words.now ≡ WORDS = (words_said c.args.words.now c.args.times.now (sized c.args.words.now c.args.times.now c.right_words-right.ensures ∙ accepted.sizes)).0 in (
-      long c.args.words.now lent HITS HITS-SIZE (omega arith),
-      omega
-          (arith, accepted.lane, accepted.few),
-      accepted.room,
-    )
+    let p = passed _ _ _ _ c.in-Ok.ensures in
+    let w# = (as_long c.args.words.now c.args.times.now c.right_words-right.ensures p.sizes).0 in
+    (long c.args.words.now w# HITS HITS-SIZE (omega arith), omega arith, p.room)
 
-pub returns-in-Refused : goal.returns-in-Refused
-returns-in-Refused c =
-    handed_none _ _ _ _ _ c.admit-admission.ensures (grid c.args.words.now c.args.times.now)
-    (sized c.args.words.now c.args.times.now c.right_words-right.ensures) _ c.in-Refused.is
+pub returns-in-Err : goal.returns-in-Err
+returns-in-Err c =
+    into_refused (grid c.args.words.now c.args.times.now) c.args.lane _
+    (sized c.args.words.now c.args.times.now c.right_words-right.ensures) _ _ _ c.in-Err.ensures
 
-pub returns-in-Accepted : goal.returns-in-Accepted
+pub returns-in-Ok : goal.returns-in-Ok
 unfolding grid
-returns-in-Accepted c =
-    handed_over _ _ _ _ _ c.admit-admission.ensures (grid c.args.words.now c.args.times.now)
-    (sized c.args.words.now c.args.times.now c.right_words-right.ensures) _ c.in-Accepted.is
-    (hits_at (hits_in c.args.words.now)) refl _ c.write_entries.ensures _ (omega arith) _ (omega arith)
+returns-in-Ok c =
+    into_accepted (grid c.args.words.now c.args.times.now) c.args.lane _
+    (sized c.args.words.now c.args.times.now c.right_words-right.ensures) _ _ _ c.in-Ok.ensures _
+    c.write_entries.ensures

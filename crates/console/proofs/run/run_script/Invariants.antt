@@ -1,6 +1,6 @@
--- run_script ends, by its line numbers: the invariant has the lengths, what the block has, what waits, and how the
--- output so far stands (`Before`, of Sofar.antt).
-use Prim.Native.Nat.{◌-◌, ◌≤◌}
+-- The invariant has the lengths, what the block has, what waits, and how the output so far stands (`Before`, of
+-- Sofar.antt).
+use Rattle.std.proofs.Common.{◌≤◌}
 use Rattle.tables.specs.Grid.{grid}
 use Rattle.grid.specs.Run.{grid_of}
 use Rattle.console.proofs.Sizes.{Sizes}
@@ -10,11 +10,8 @@ use Rattle.console.proofs.run.run_script.Given as goal
 abbrev pub invariant-loop-number : goal.invariant-loop-number
 invariant-loop-number g l =
     record {
-      sizes : Sizes l.words l.times l.list l.block l.line l.out;
-      filled : l.p.filled ≤ 4096;
+      sizes : Sizes l.words l.times l.list l.block l.out;
+      filled : l.p.input.filled ≤ 4096;
       waiting : l.p.waiting ≤ 16384;
       sofar : Before l.number l.block l.p l.out (grid_of (grid l.words l.times) l.updaters l.queries) l.list;
     }
-
-abbrev pub decreases-loop-number : goal.decreases-loop-number
-decreases-loop-number g l = 18446744073709551615 - l.number

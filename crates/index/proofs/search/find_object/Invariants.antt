@@ -1,13 +1,8 @@
--- find_object answers what `find` says. The loop's invariant: the search from the start is the search from entry i with `left` entries left.
--- Each return is one step of that search; the measure is `left`.
+-- find_object answers `search`. The loop's invariant: the search from the start is the search that has passed so many entries.
 use mathlib.Core.Path.{◌≡◌}
-use Prim.Native.Nat.{◌≤◌, ◌<◌}
-use lib.ListN.{length}
-use Rattle.index.specs.Search.{probe, search_says, search_tells}
+use Prim.Native.Nat.{◌+◌, ◌-◌, ◌%◌}
+use Rattle.index.specs.Search.{probe, search}
 use Rattle.index.proofs.search.find_object.Given as goal
 
-abbrev pub invariant-loop-left : goal.invariant-loop-left
-invariant-loop-left l = (length l.oids ≡ 512) × (l.i < 512) × (l.left ≤ 512) × (search_tells l.oids l.oid ≡ search_says (probe l.oids l.oid l.s l.left l.i))
-
-abbrev pub decreases-loop-left : goal.decreases-loop-left
-decreases-loop-left l = l.left
+abbrev pub invariant-loop-passed : goal.invariant-loop-passed
+invariant-loop-passed l = search l.oids l.oid ≡ probe l.oids l.oid l.start (512 - l.passed) ((l.start + l.passed) % 512)

@@ -1,6 +1,7 @@
 -- start_one does what `start_one` says: one law of Steps.antt for each return, on the tables that were lent.
 use mathlib.Core.Path.{sym, ◌∙◌}
 use native.Mathlib.Omega.{arith}
+use borrow.Author.Rules.{rules}
 use Rattle.tables.specs.Grid.{grid}
 use Rattle.tables.proofs.Grid.{set_clock}
 use Rattle.regions.proofs.Checks.{checked_accepted, checked_off, checked_crossed, checked_wide}
@@ -21,22 +22,22 @@ returns-then-not-is_idle c =
     start_taken (grid c.args.words.now c.args.times.now) _ _ _ (sized c.args.words.now c.args.times.now c.right_words.ensures ∙ c.if-not-right_words.false) c.if-lane-ge-QUERY_COUNT.false
     (sym c.is_idle.ensures ∙ c.if-not-is_idle.true)
 
-pub returns-in-OffGrid : goal.returns-in-OffGrid
-returns-in-OffGrid c =
+pub returns-in-Err-OffGrid : goal.returns-in-Err-OffGrid
+returns-in-Err-OffGrid c =
     start_off (grid c.args.words.now c.args.times.now) _ _ _ (sized c.args.words.now c.args.times.now c.right_words.ensures ∙ c.if-not-right_words.false) c.if-lane-ge-QUERY_COUNT.false (sym c.is_idle.ensures ∙ c.if-not-is_idle.false)
-    (checked_off _ c.check_region-checked.ensures c.in-OffGrid.is)
+    (checked_off _ c.check_region-checked.ensures (search rules))
 
-pub returns-in-Crossed : goal.returns-in-Crossed
-returns-in-Crossed c =
+pub returns-in-Err-Crossed : goal.returns-in-Err-Crossed
+returns-in-Err-Crossed c =
     start_crossed (grid c.args.words.now c.args.times.now) _ _ _ (sized c.args.words.now c.args.times.now c.right_words.ensures ∙ c.if-not-right_words.false) c.if-lane-ge-QUERY_COUNT.false
     (sym c.is_idle.ensures ∙ c.if-not-is_idle.false)
-    (checked_crossed _ c.check_region-checked.ensures c.in-Crossed.is)
+    (checked_crossed _ c.check_region-checked.ensures (search rules))
 
-pub returns-in-Wide : goal.returns-in-Wide
-returns-in-Wide c =
+pub returns-in-Err-Wide : goal.returns-in-Err-Wide
+returns-in-Err-Wide c =
     start_wide (grid c.args.words.now c.args.times.now) _ _ _ (sized c.args.words.now c.args.times.now c.right_words.ensures ∙ c.if-not-right_words.false) c.if-lane-ge-QUERY_COUNT.false
     (sym c.is_idle.ensures ∙ c.if-not-is_idle.false)
-    (checked_wide _ c.check_region-checked.ensures c.in-Wide.is)
+    (checked_wide _ c.check_region-checked.ensures (search rules))
 
 pub bounds-words-16384 : goal.bounds-words-16384
 bounds-words-16384 c =
@@ -47,7 +48,7 @@ unfolding grid
 returns-then-clock-ge-CLOCK_SPENT c =
     start_spent (grid c.args.words.now c.args.times.now) _ _ _ (sized c.args.words.now c.args.times.now c.right_words.ensures ∙ c.if-not-right_words.false) c.if-lane-ge-QUERY_COUNT.false
     (sym c.is_idle.ensures ∙ c.if-not-is_idle.false)
-    (checked_accepted _ c.check_region-checked.ensures c.in-Accepted.is)
+    (checked_accepted _ c.check_region-checked.ensures c.in-Ok.is)
     c.if-clock-ge-CLOCK_SPENT.true
 
 pub bounds-words-16384-2 : goal.bounds-words-16384-2
@@ -58,7 +59,7 @@ pub returns : goal.returns
 unfolding grid
 returns c =
     start_done (grid c.args.words.now c.args.times.now) _ _ _ (sized c.args.words.now c.args.times.now c.right_words.ensures ∙ c.if-not-right_words.false) c.if-lane-ge-QUERY_COUNT.false (sym c.is_idle.ensures ∙ c.if-not-is_idle.false)
-    (checked_accepted _ c.check_region-checked.ensures c.in-Accepted.is)
+    (checked_accepted _ c.check_region-checked.ensures c.in-Ok.is)
     c.if-clock-ge-CLOCK_SPENT.false _ c.first_cell-visit.ensures ∙ as_tables 0 _
     (sym (set_clock c.args.words.now c.args.times.now
     (as_long c.args.words.now c.args.times.now c.right_words.ensures c.if-not-right_words.false).0 _))

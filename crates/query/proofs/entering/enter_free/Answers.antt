@@ -1,93 +1,48 @@
--- enter_free does what `enter_free` says: by the tests that led to each return, then as after_cell or add_reader answers.
-use Prim.Native.Nat.{◌+◌}
-use lib.ListN.{get_or}
-use native.Mathlib.Omega.{arith}
-use mathlib.Core.Path.{refl, ap, ◌∙◌}
-use borrow.Author.Tests.{lt-ltb, le-ltb, eq-eqb, ne_eqb}
-use Rattle.base.specs.Outcome.{need, pick, and_then}
-use Rattle.base.specs.Step.{turn_tells, turn_leaves}
-use Rattle.base.proofs.Step.{said_corrupt, said_done}
-use Rattle.words.specs.Map.{FIRST}
-use Rattle.words.specs.Words.{count_in, readers_in}
-use Rattle.readers.specs.Reader.{add_reader}
-use Rattle.readers.proofs.Answers.{stood_corrupt, stood_in}
-use Rattle.query.specs.Scan.{counted, after_cell, onward_says, enter_free}
-use Rattle.query.proofs.Landing.{stays, reads_there}
+-- enter_free does what `enter_free` says: by what the cell's first bucket is, then as after_cell or add_reader answered.
+use Rattle.std.proofs.Common.{◌≡◌, ◌≢◌, arith, rules}
+use mathlib.Core.Path.{refl}
+use Rattle.std.proofs.lemmas.Result.{err_from_is_err_and}
+use Rattle.base.specs.Outcome.{and_then}
+use Rattle.base.specs.Step.{turn_tells, turn_leaves, lift}
+use Rattle.base.specs.Table.{at}
 use Rattle.tables.specs.Grid.{grid}
-use Rattle.words.proofs.Parts.{part_at}
+use Rattle.tables.proofs.Grid.{first_at}
+use Rattle.query.proofs.Landing.{stands_off, stands_on}
+use Rattle.query.proofs.Tests.{more, enter_empty, enter_there, passes}
 use Rattle.query.proofs.entering.enter_free.Goals as goal
 
-pub returns-then-q-ge4294967295 : goal.returns-then-q-ge4294967295
-unfolding enter_free counted need pick and_then turn_tells turn_leaves grid
-returns-then-q-ge4294967295 c ts =
-    stays c.args.words.now ts _ _ _ refl (rw (le-ltb _ _ c.if-q-ge4294967295.true))
-
-pub returns-then-cell-ge-CELL_COUNT : goal.returns-then-cell-ge-CELL_COUNT
-unfolding enter_free counted need pick and_then turn_tells turn_leaves grid
-returns-then-cell-ge-CELL_COUNT c ts =
-    stays c.args.words.now ts _ _ _ refl (rw (lt-ltb _ _ c.if-q-ge4294967295.false, le-ltb _ _ c.if-cell-ge-CELL_COUNT.true))
-
-pub returns-in_default : goal.returns-in_default
-unfolding enter_free counted need pick and_then turn_tells turn_leaves grid
-returns-in_default c ts =
-    stays c.args.words.now ts _ _ _ refl (rw (
-      lt-ltb _ _ c.if-q-ge4294967295.false,
-      lt-ltb _ _ c.if-cell-ge-CELL_COUNT.false,
-      part_at c.args.words.now FIRST 256 c.args.cell 0 c.if-cell-ge-CELL_COUNT.false,
-      eq-eqb _ _
-          c.if-bucket-eq-NO_BUCKET.true,
-      said_corrupt (after_cell _ _)
-          (c.after_cell-onward.ensures ∙ ap onward_says c.in_default.is),
-    ))
+pub returns-in_err-stage : goal.returns-in_err-stage
+unfolding and_then turn_tells turn_leaves lift
+returns-in_err-stage c ts =
+    let t = grid c.args.words.now ts in
+    let z : at t.first c.args.cell ≡ 512 = omega (arith, first_at c.args.words.now ts c.args.cell (omega arith)) in
+    let p = err_from_is_err_and c.from_residual-in_err-stage.result c.from_residual-in_err-stage.ensures.1 in
+    rw (p.1, p.2, enter_empty _ _ c.in_ok-next.ensures t c.args.cell (omega arith) z, ← c.in_err-stage.ensures)
 
 pub returns-then-bucket-eq-NO_BUCKET : goal.returns-then-bucket-eq-NO_BUCKET
-unfolding enter_free counted need pick and_then turn_tells turn_leaves grid
 returns-then-bucket-eq-NO_BUCKET c ts =
-    stays c.args.words.now ts _ _ _ refl (rw (
-      lt-ltb _ _ c.if-q-ge4294967295.false,
-      lt-ltb _ _ c.if-cell-ge-CELL_COUNT.false,
-      part_at c.args.words.now FIRST 256 c.args.cell 0 c.if-cell-ge-CELL_COUNT.false,
-      eq-eqb _ _
-          c.if-bucket-eq-NO_BUCKET.true,
-      said_done (after_cell _ _) (c.after_cell-onward.ensures ∙ ap onward_says
-          c.in-To.is),
-      c.one_more.ensures,
-    ))
+    let t = grid c.args.words.now ts in
+    let z : at t.first c.args.cell ≡ 512 = omega (arith, first_at c.args.words.now ts c.args.cell (omega arith)) in
+    rw (more _ _ c.in_ok-next.ensures, enter_empty _ _ c.in_ok-next.ensures t c.args.cell (omega arith) z)
+    (passes t c.args.q c.args.cell _ c.in_ok-stage.ensures)
 
-pub returns-in_default-stood : goal.returns-in_default-stood
-unfolding enter_free counted need pick and_then turn_tells turn_leaves grid
-returns-in_default-stood c ts =
-    stays c.args.words.now ts _ _ _ (stood_corrupt c.args.words.now c.add_reader-stood.new.words
-    (add_reader (count_in c.args.words.now) (readers_in c.args.words.now) _)
-    c.add_reader-stood.ensures c.in_default-stood.is).1
-    (rw (
-      lt-ltb _ _ c.if-q-ge4294967295.false,
-      lt-ltb _ _ c.if-cell-ge-CELL_COUNT.false,
-      part_at c.args.words.now FIRST
-          256 c.args.cell 0 c.if-cell-ge-CELL_COUNT.false,
-      ne_eqb _ _ c.if-bucket-eq-NO_BUCKET.false,
-      (stood_corrupt c.args.words.now c.add_reader-stood.new.words
-          (add_reader (count_in c.args.words.now) (readers_in c.args.words.now) _)
-          c.add_reader-stood.ensures c.in_default-stood.is).0,
-    ))
+pub returns-in_err-standing : goal.returns-in_err-standing
+unfolding grid
+returns-in_err-standing c ts =
+    let w = c.args.words.now in
+    let t = grid w ts in
+    let f = first_at w ts c.args.cell (omega arith) in
+    let z : at t.first c.args.cell ≢ 512 = λ e. omega arith in
+    let p = err_from_is_err_and c.from_residual-in_err-standing.result c.from_residual-in_err-standing.ensures.1 in
+    rw (p.1, p.2, enter_there _ _ c.in_ok-next.ensures t c.args.cell (omega arith) z, f)
+    (stands_off w ts (search rules) c.add_reader.new.words (search rules) c.args.q c.args.cell _ c.in_err-standing.ensures refl)
 
 pub returns : goal.returns
-unfolding enter_free counted need pick and_then turn_tells turn_leaves grid
+unfolding grid
 returns c ts =
-    reads_there c.args.words.now ts _ _ c.requires c.add_reader-stood.new.words
-    c.add_reader-stood.auto.words (stood_in c.args.words.now
-    c.add_reader-stood.new.words (add_reader (count_in c.args.words.now)
-    (readers_in c.args.words.now) _) c.add_reader-stood.ensures c.requires
-    c.add_reader-stood.auto.words _ c.in-In.is).1
-    (rw (
-      lt-ltb _ _ c.if-q-ge4294967295.false,
-      lt-ltb _ _ c.if-cell-ge-CELL_COUNT.false,
-      part_at c.args.words.now FIRST
-          256 c.args.cell 0 c.if-cell-ge-CELL_COUNT.false,
-      ne_eqb (get_or c.args.words.now (FIRST + c.args.cell) 0) 512 (omega arith),
-      (stood_in c.args.words.now c.add_reader-stood.new.words
-          (add_reader (count_in c.args.words.now) (readers_in c.args.words.now) _)
-          c.add_reader-stood.ensures c.requires c.add_reader-stood.auto.words _
-          c.in-In.is).0,
-      c.one_more-2.ensures,
-    ))
+    let w = c.args.words.now in
+    let t = grid w ts in
+    let f = first_at w ts c.args.cell (omega arith) in
+    let z : at t.first c.args.cell ≢ 512 = λ e. omega arith in
+    rw (more _ _ c.in_ok-next.ensures, enter_there _ _ c.in_ok-next.ensures t c.args.cell (omega arith) z, f)
+    (stands_on w ts (search rules) c.add_reader.new.words (search rules) c.args.q c.args.cell _ c.in_ok-standing.ensures _ refl)

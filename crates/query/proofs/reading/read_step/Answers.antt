@@ -1,101 +1,51 @@
--- read_step does what `read_step` says: by the tests that led to each return, then as read_tuple and consider_tuple answer.
-use mathlib.Core.Path.{◌∙◌}
-use native.Mathlib.Omega.{arith}
-use borrow.Author.Tests.{lt-ltb, le-ltb, eq-eqb, ne_eqb}
-use Rattle.base.specs.Outcome.{need, and_then}
-use Rattle.base.specs.Step.{turn_tells, turn_leaves}
-use Rattle.words.specs.Map.{TUPLES, TUPLES-SIZE, HITS, HITS-SIZE}
-use Rattle.regions.proofs.Checks.{checked_accepted, checked_refused}
-use Rattle.slots.specs.Tuple.{read}
-use Rattle.slots.proofs.Answers.{tuple_corrupt, tuple_at}
-use Rattle.hits.proofs.Answers.{noted_corrupt, noted_size}
-use Rattle.tables.proofs.Grid.{long}
+-- read_step does what `read_step` says: by what check_region answered, then as read_tuple and consider_tuple answered.
+use Rattle.std.proofs.Common.{◌≡◌, ◌+◌, arith, rules}
+use mathlib.Core.Bool.{true, false}
+use mathlib.Core.Path.{refl, sym, ◌∙◌}
+use Rattle.std.proofs.lemmas.Result.{err_from_is_err_and}
+use Rattle.base.specs.Step.{turn_tells, turn_leaves, lift}
+use Rattle.regions.specs.Region.{proper}
+use Rattle.regions.proofs.Checks.{checked_in_range}
 use Rattle.tables.specs.Grid.{grid}
-use Rattle.query.specs.Scan.{counted, consider, read_step}
-use Rattle.query.proofs.Landing.{keeps, notes}
+use Rattle.query.specs.Scan.{standing_of, consider}
+use Rattle.query.proofs.Landing.{notes_off, notes_on}
+use Rattle.query.proofs.Tests.{more, read_stray, read_none, read_there}
 use Rattle.query.proofs.reading.read_step.Goals as goal
 
-pub returns-then-q-ge4294967295 : goal.returns-then-q-ge4294967295
-unfolding read_step counted need and_then turn_tells turn_leaves grid
-returns-then-q-ge4294967295 c =
-    keeps c.args.words.now c.args.times.now _ _ (rw (le-ltb _ _ c.if-q-ge4294967295.true))
+pub returns-in_err-map_err : goal.returns-in_err-map_err
+unfolding turn_tells turn_leaves lift
+returns-in_err-map_err c =
+    let t = grid c.args.words.now c.args.times.now in
+    let z : proper c.args.q.question ≡ false = sym (checked_in_range _ _ c.check_region.ensures) ∙ sym c.in_err-map_err.ensures.variant in
+    let p = err_from_is_err_and c.from_residual-in_err-map_err.result c.from_residual-in_err-map_err.ensures.1 in
+    rw (p.1, p.2, read_stray _ _ c.in_ok-next.ensures t.tuples t.hits c.args.lane c.args.cell c.args.s z)
 
-pub returns-in_default : goal.returns-in_default
-unfolding read_step counted need and_then turn_tells turn_leaves grid
-returns-in_default c =
-    keeps c.args.words.now c.args.times.now _ _
-    (rw (
-      lt-ltb _ _ c.if-q-ge4294967295.false,
-      checked_refused _ c.check_region.result
-          c.check_region.ensures c.in_default.not-Accepted,
-    ))
+pub returns-in_err-t : goal.returns-in_err-t
+unfolding turn_tells turn_leaves lift grid
+returns-in_err-t c =
+    let t = grid c.args.words.now c.args.times.now in
+    let z : proper c.args.q.question ≡ true = sym (checked_in_range _ _ c.check_region.ensures) ∙ sym c.in_ok-map_err.ensures.variant in
+    let p = err_from_is_err_and c.from_residual-in_err-t.result c.from_residual-in_err-t.ensures.1 in
+    let n : c.args.s.left ≡ c.in-Some.slot + 1 = omega (arith, c.in-Some.ensures) in
+    rw (p.1, p.2, read_none _ _ c.in_ok-next.ensures t.tuples t.hits c.args.lane c.args.cell c.args.s c.in-Some.slot z n c.in_err-t.ensures)
 
-pub returns-then-s-eq0 : goal.returns-then-s-eq0
-unfolding read_step counted need and_then turn_tells turn_leaves grid
-returns-then-s-eq0 c =
-    keeps c.args.words.now c.args.times.now _ _
-    (rw (
-      lt-ltb _ _ c.if-q-ge4294967295.false,
-      checked_accepted _ c.check_region.ensures
-          c.in-Accepted.is,
-      eq-eqb _ _ c.if-s-eq0.true,
-    ))
-
-pub read_tuple-read-requires : goal.read_tuple-read-requires
-read_tuple-read-requires c =
-    (long c.args.words.now c.requires.0 TUPLES TUPLES-SIZE (omega arith), c.requires.1)
-
-pub returns-in_default-read : goal.returns-in_default-read
-unfolding read_step counted need and_then turn_tells turn_leaves grid
-returns-in_default-read c =
-    keeps c.args.words.now c.args.times.now _ _
-    (rw (
-      lt-ltb _ _ c.if-q-ge4294967295.false,
-      checked_accepted _ c.check_region.ensures
-          c.in-Accepted.is,
-      ne_eqb _
-          _ c.if-s-eq0.false,
-      tuple_corrupt (read _ _ _) c.read_tuple-read.ensures
-          c.in_default-read.is,
-    ))
-
-pub consider_tuple-noted-requires : goal.consider_tuple-noted-requires
-consider_tuple-noted-requires c =
-    (long c.args.words.now c.requires.0 HITS HITS-SIZE (omega arith), c.requires.2)
-
-pub returns-in_default-noted : goal.returns-in_default-noted
-unfolding read_step counted need and_then turn_tells turn_leaves grid
-returns-in_default-noted c =
-    notes c.args.words.now c.args.times.now _ _ c.requires.0 c.consider_tuple-noted.new.list
-    (c.consider_tuple-noted.auto.list ∙ long c.args.words.now c.requires.0 HITS HITS-SIZE
-    (omega arith)) (rw (
-      lt-ltb _ _ c.if-q-ge4294967295.false,
-      checked_accepted _ c.check_region.ensures
-          c.in-Accepted.is,
-      ne_eqb _
-          _ c.if-s-eq0.false,
-      tuple_at (read _ _ _) c.read_tuple-read.ensures _
-          c.in-At.is,
-      (noted_corrupt _ _ (consider _ _ _ _)
-          c.consider_tuple-noted.ensures c.in_default-noted.is).0,
-      (noted_corrupt _ _
-          (consider _ _ _ _) c.consider_tuple-noted.ensures c.in_default-noted.is).1,
-    ))
+pub returns-in_err-hits : goal.returns-in_err-hits
+unfolding grid
+returns-in_err-hits c =
+    let w = c.args.words.now in
+    let t = grid w c.args.times.now in
+    let z : proper c.args.q.question ≡ true = sym (checked_in_range _ _ c.check_region.ensures) ∙ sym c.in_ok-map_err.ensures.variant in
+    let p = err_from_is_err_and c.from_residual-in_err-hits.result c.from_residual-in_err-hits.ensures.1 in
+    let n : c.args.s.left ≡ c.in-Some.slot + 1 = omega (arith, c.in-Some.ensures) in
+    rw (p.1, p.2, read_there _ _ c.in_ok-next.ensures t.tuples t.hits c.args.lane c.args.cell c.args.s c.in-Some.slot z n _ c.in_ok-t.ensures)
+    (notes_off w c.args.times.now (search rules) c.consider_tuple.new.list (search rules) c.args.q c.args.cell (standing_of c.args.s.bucket c.in-Some.slot) (consider t.hits c.args.lane c.args.q c.in_ok-t.t) c.in_err-hits.ensures refl)
 
 pub returns : goal.returns
-unfolding read_step counted need and_then turn_tells turn_leaves grid
+unfolding grid
 returns c =
-    notes c.args.words.now c.args.times.now _ _ c.requires.0 c.consider_tuple-noted.new.list
-    (c.consider_tuple-noted.auto.list ∙ long c.args.words.now c.requires.0 HITS HITS-SIZE
-    (omega arith)) (rw (
-      lt-ltb _ _ c.if-q-ge4294967295.false,
-      checked_accepted _ c.check_region.ensures
-          c.in-Accepted.is,
-      ne_eqb _
-          _ c.if-s-eq0.false,
-      tuple_at (read _ _ _) c.read_tuple-read.ensures _
-          c.in-At.is,
-      noted_size _ _ (consider _ _ _ _) c.consider_tuple-noted.ensures
-          _ c.in-Size.is,
-      c.one_more.ensures,
-    ))
+    let w = c.args.words.now in
+    let t = grid w c.args.times.now in
+    let z : proper c.args.q.question ≡ true = sym (checked_in_range _ _ c.check_region.ensures) ∙ sym c.in_ok-map_err.ensures.variant in
+    let n : c.args.s.left ≡ c.in-Some.slot + 1 = omega (arith, c.in-Some.ensures) in
+    rw (more _ _ c.in_ok-next.ensures, read_there _ _ c.in_ok-next.ensures t.tuples t.hits c.args.lane c.args.cell c.args.s c.in-Some.slot z n _ c.in_ok-t.ensures)
+    (notes_on w c.args.times.now (search rules) c.consider_tuple.new.list (search rules) c.args.q c.args.cell (standing_of c.args.s.bucket c.in-Some.slot) (consider t.hits c.args.lane c.args.q c.in_ok-t.t) c.in_ok-hits.ensures refl)

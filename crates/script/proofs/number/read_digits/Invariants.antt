@@ -1,13 +1,10 @@
--- read_digits answers `digits_on`. The loop's invariant: what is to be read from here on, behind the value so far, is what was to be read at the start.
--- The measure is what is left of the line.
-use mathlib.Core.Path.{◌≡◌}
-use Prim.Native.Nat.{◌-◌, ◌≤◌}
-use lib.ListN.{length, drop}
+-- What is to be read behind the value so far is what was to be read at the start. The measure is how many bytes are left.
+use Rattle.std.proofs.Common.{◌≡◌, length}
 use Rattle.script.specs.Parse.{digits_on}
 use Rattle.script.proofs.number.read_digits.Given as goal
 
-abbrev pub invariant-loop-i : goal.invariant-loop-i
-invariant-loop-i l = (l.v ≤ 4294967295) × (digits_on l.value (drop l.from l.line) ≡ digits_on l.v (drop l.i l.line))
+abbrev pub invariant-loop-rest : goal.invariant-loop-rest
+invariant-loop-rest l = digits_on l.initial.value (l.initial.rest) ≡ digits_on l.value l.rest
 
-abbrev pub decreases-loop-i : goal.decreases-loop-i
-decreases-loop-i l = length l.line - l.i
+abbrev pub decreases-loop-rest : goal.decreases-loop-rest
+decreases-loop-rest l = length l.rest

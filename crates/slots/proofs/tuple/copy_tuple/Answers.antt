@@ -1,44 +1,33 @@
--- copy_tuple does what `copy` says: one case for each return, by the tests that led there.
-use borrow.Author.Tests.{le-ltb, lt-ltb}
+-- copy_tuple does what `copy` says: one case for each return, by the two slots.
+use Rattle.std.proofs.Common.{rules}
+use mir.ValLaws.{to_z-of_z}
+use borrow.Author.Tests.{lt-ltb}
+use Rattle.std.proofs.lemmas.Result.{err_from_is_err_and}
 use Rattle.base.specs.Outcome.{need, tells, leaves}
 use Rattle.slots.specs.Tuple.{copy, need_slot}
-use Rattle.slots.proofs.Written.{copied}
-use mir.Syntax.{w32}
-use mir.ValLaws.{to_z-of_z}
+use Rattle.slots.proofs.Written.{slot_lost, slot_found, copied_at}
 use Rattle.slots.proofs.tuple.copy_tuple.Goals as goal
 
-pub returns-then-bucket-ge-BUCKET_COUNT : goal.returns-then-bucket-ge-BUCKET_COUNT
-unfolding copy need_slot need tells leaves
-returns-then-bucket-ge-BUCKET_COUNT c = rw (le-ltb _ _ c.if-bucket-ge-BUCKET_COUNT.true)
+pub returns-in_err-from : goal.returns-in_err-from
+unfolding copy tells leaves
+returns-in_err-from c =
+    rw ((err_from_is_err_and c.from_residual.result c.from_residual.ensures.1).1, slot_lost c.args.bucket c.args.slot _ c.in_err-from.ensures)
 
-pub returns-then-slot-ge-BUCKET_SLOTS : goal.returns-then-slot-ge-BUCKET_SLOTS
+pub returns-in_err-to : goal.returns-in_err-to
 unfolding copy need_slot need tells leaves
-returns-then-slot-ge-BUCKET_SLOTS c = rw (lt-ltb _ _ c.if-bucket-ge-BUCKET_COUNT.false, le-ltb _ _ c.if-slot-ge-BUCKET_SLOTS.true)
-
-pub returns-then-bucket2-ge-BUCKET_COUNT : goal.returns-then-bucket2-ge-BUCKET_COUNT
-unfolding copy need_slot need tells leaves
-returns-then-bucket2-ge-BUCKET_COUNT c =
-    rw (lt-ltb _ _ c.if-bucket-ge-BUCKET_COUNT.false, lt-ltb _ _ c.if-slot-ge-BUCKET_SLOTS.false, le-ltb _ _ c.if-bucket2-ge-BUCKET_COUNT.true)
-
-pub returns-then-slot2-ge-BUCKET_SLOTS : goal.returns-then-slot2-ge-BUCKET_SLOTS
-unfolding copy need_slot need tells leaves
-returns-then-slot2-ge-BUCKET_SLOTS c =
-    let at-if1 = c.before.before.before in
+returns-in_err-to c =
+    let s = slot_found c.args.bucket c.args.slot c.in_ok-from.ensures in
     rw (
-      lt-ltb _ _ at-if1.if-bucket-ge-BUCKET_COUNT.false,
-      lt-ltb _ _ c.if-slot-ge-BUCKET_SLOTS.false,
-      lt-ltb _ _ c.if-bucket2-ge-BUCKET_COUNT.false,
-      le-ltb _ _ c.if-slot2-ge-BUCKET_SLOTS.true,
+      (err_from_is_err_and c.from_residual-in_err-to.result c.from_residual-in_err-to.ensures.1).1,
+      lt-ltb _ _ s.0,
+      lt-ltb _ _ s.1,
+      slot_lost c.args.bucket2 c.args.slot2 _ c.in_err-to.ensures,
     )
 
 pub returns : goal.returns
+unfolding tells
 returns c =
-    let at-put-tuple = c.before.before.before in
-    let at-if4 = at-put-tuple.before.before.before.before.before.before in
-    let at-if3 = at-if4.before in
-    let at-if2 = at-if3.before in
-    let at-if1 = at-if2.before in
-    let s = at-if1.before.before in
-    copied s.args.tuples.now at-put-tuple.put_tuple.new.tuples s.args.times.now _ _ _ at-if1.if-bucket-ge-BUCKET_COUNT.false
-    at-if2.if-slot-ge-BUCKET_SLOTS.false _ _ at-if3.if-bucket2-ge-BUCKET_COUNT.false at-if4.if-slot2-ge-BUCKET_SLOTS.false
-    (to_z-of_z w32 _ (record { sfits = c.times-1.given })) at-put-tuple.put_tuple.ensures
+    let s = slot_found c.args.bucket c.args.slot c.in_ok-from.ensures in
+    let t = slot_found c.args.bucket2 c.args.slot2 c.in_ok-to.ensures in
+    copied_at c.args.tuples.now c.put_tuple.new.tuples c.args.times.now _ _ _ s.0 s.1 _ _ t.0 t.1 s.2 t.2
+    (search (rules, to_z-of_z)) c.put_tuple.ensures

@@ -1,47 +1,28 @@
--- overwrite_tuple does what `overwrite` says: one case for each return, by the tests that led there.
-use borrow.Author.Tests.{le-ltb, lt-ltb, not-false, not-true}
-use Rattle.base.specs.Outcome.{need, tells, leaves}
-use Rattle.slots.specs.Tuple.{overwrite, need_slot}
-use Rattle.slots.proofs.Written.{overwritten}
+-- overwrite_tuple does what `overwrite` says: one case for each return, by the slot and the stamp's magnitude.
 use mathlib.Core.Path.{sym, ◌∙◌}
 use mir.Syntax.{w32}
 use mir.ValLaws.{to_z-of_z}
-use Rattle.slots.proofs.Signs.{range_below}
+use borrow.Author.Tests.{lt-ltb}
+use Rattle.std.proofs.lemmas.Result.{err_from_is_err_and}
+use Rattle.base.specs.Outcome.{need, tells, leaves}
+use Rattle.slots.specs.Tuple.{overwrite, need_slot}
+use Rattle.slots.proofs.Written.{slot_lost, slot_found, overwritten}
 use Rattle.slots.proofs.tuple.overwrite_tuple.Goals as goal
 
-pub returns-then-bucket-ge-BUCKET_COUNT : goal.returns-then-bucket-ge-BUCKET_COUNT
-unfolding overwrite need_slot need tells leaves
-returns-then-bucket-ge-BUCKET_COUNT c = rw (le-ltb _ _ c.if-bucket-ge-BUCKET_COUNT.true)
-
-pub returns-then-slot-ge-BUCKET_SLOTS : goal.returns-then-slot-ge-BUCKET_SLOTS
-unfolding overwrite need_slot need tells leaves
-returns-then-slot-ge-BUCKET_SLOTS c = rw (lt-ltb _ _ c.if-bucket-ge-BUCKET_COUNT.false, le-ltb _ _ c.if-slot-ge-BUCKET_SLOTS.true)
+pub returns-in_err-i : goal.returns-in_err-i
+unfolding overwrite tells leaves
+returns-in_err-i c =
+    rw ((err_from_is_err_and c.from_residual.result c.from_residual.ensures.1).1, slot_lost c.args.bucket c.args.slot _ c.in_err-i.ensures)
 
 pub returns-then-not-in_range : goal.returns-then-not-in_range
 unfolding overwrite need_slot need tells leaves
 returns-then-not-in_range c =
-    let at-if1 = c.before.before.before in
-    rw (
-      lt-ltb _ _ at-if1.if-bucket-ge-BUCKET_COUNT.false,
-      lt-ltb _ _ c.if-slot-ge-BUCKET_SLOTS.false,
-      sym c.in_range.ensures
-          ∙ not-true c.in_range.result c.if-not-in_range.true-raw,
-    )
-
-pub current_stamp-s-requires : goal.current_stamp-s-requires
-current_stamp-s-requires c =
-    range_below _ (sym c.in_range.ensures ∙ not-false c.in_range.result c.if-not-in_range.false-raw)
+    let s = slot_found c.args.bucket c.args.slot c.in_ok-i.ensures in
+    rw (lt-ltb _ _ s.0, lt-ltb _ _ s.1, sym c.if-not-in_range.ensures)
 
 pub returns : goal.returns
+unfolding tells
 returns c =
-    let at-current-stamp = c.before.before.before.before in
-    let at-if3 = at-current-stamp.before in
-    let at-in-range = at-if3.before in
-    let at-if2 = at-in-range.before in
-    let at-if1 = at-if2.before in
-    let s = at-if1.before.before in
-    overwritten s.args.tuples.now c.put_tuple.new.tuples s.args.times.now _ _ _
-    at-if1.if-bucket-ge-BUCKET_COUNT.false at-if2.if-slot-ge-BUCKET_SLOTS.false _ _ _ _ _ (sym at-in-range.in_range.ensures ∙ not-false
-    at-in-range.in_range.result at-if3.if-not-in_range.false-raw)
-    (to_z-of_z w32 _ (record { sfits = at-current-stamp.current_stamp-s.type_inv }) ∙
-    at-current-stamp.current_stamp-s.ensures) c.put_tuple.ensures
+    let s = slot_found c.args.bucket c.args.slot c.in_ok-i.ensures in
+    rw s.2 (overwritten c.args.tuples.now c.put_tuple.new.tuples c.args.times.now _ _ _ s.0 s.1 _ _ _ _ _ (sym c.if-not-in_range.ensures)
+    (to_z-of_z w32 _ (record { sfits = c.current_stamp.type_inv }) ∙ c.current_stamp.ensures) (rw s.2 at c.put_tuple.ensures))

@@ -15,5 +15,5 @@ bounds-tuples-at-4 c = rw length-set (rw length-set (rw length-set (omega arith)
 
 pub returns : goal.returns
 returns c ts =
-    put_all c.args.tuples.now c.requires.0 c.args.at c.requires.1 c.args.oid c.args.x c.args.y
-    c.args.tag ts
+    put_all c.args.tuples.now c.requires.0 c.args.at c.requires.1 c.args.r.oid c.args.r.x c.args.r.y
+    c.args.r.tag ts

@@ -1,17 +1,8 @@
--- next_line makes room and reads a line: each return is a law of Ahead.antt, from what make_room, fetch_line and the
--- tests of its answer ensure.
-use Rattle.streams.proofs.Ahead.{next_stopped, next_read}
+-- next_line makes room and reads a line. Where the input has ended, the law is `next_ended`.
+use Rattle.std.proofs.Common.{rules, refl}
+use Rattle.streams.proofs.Ahead.{next_ended}
 use Rattle.streams.proofs.progress.next_line.Goals as goal
 
-pub returns-then-p : goal.returns-then-p
-returns-then-p g c =
-    next_stopped c.requires.filled c.make_room-room.ensures c.no_line.ensures
-
-pub returns-then-not-room : goal.returns-then-not-room
-returns-then-not-room g c =
-    next_stopped c.requires.filled c.make_room-room.ensures c.no_line-then-not-room.ensures
-
-pub returns : goal.returns
-returns g c =
-    next_read _ c.fetch_line-q.ensures _ _ _ c.has_line-more.ensures c.has_ended-last.ensures
-    c.if-p.false c.make_room-room.ensures
+pub returns-in-Ok-Some-End : goal.returns-in-Ok-Some-End
+returns-in-Ok-Some-End g c =
+    next_ended _ _ c.fetch_line.ensures (search rules) c.make_room.ensures c.clear.ensures refl c.if-p.false refl (search rules)
