@@ -1,5 +1,6 @@
 // Stages 1, 2, 3 and 14 of an update: it takes and releases the locks of objects and cells.
-// On the index, the locks of the cells, or the words that hold all tables; their lengths are the caller's to check.
+// On the index, the locks of the cells, or the words that hold all tables; the length of the index is the caller's to
+// check.
 #![tactic(auto)]
 
 ghost use Rattle.std.specs.Prelude.{◌≡◌, length};

@@ -1,2 +1,5 @@
 mod Chunks
 pub mod Printing
+pub mod Parts
+pub mod Stores
+pub mod Pages

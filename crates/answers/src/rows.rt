@@ -1,52 +1,56 @@
 // Lines of output. The longest has at most 64 bytes.
-ghost use Rattle.std.specs.Prelude.{◌+◌, ◌≤◌, length};
+ghost use Rattle.std.specs.Prelude.{◌≡◌, ◌++◌, ◌+◌, ◌≤◌, length};
+ghost use Rattle.arrayvec.specs.ArrayVec.{array_vec_len};
 ghost use Rattle.answers.specs.Answer.{row, answer_line, collected_line, entry_line};
-ghost use Rattle.answers.specs.Printed.{Printed};
 
 use crate::numbers::print_closed;
+use arrayvec::ArrayVec;
 
 // A row: numbers parted by commas, with a line feed behind the last.
-fn print_row(out: &mut [u8], at: usize, numbers: &[u64]) -> usize
-    requires { at + length (row numbers.now) ≤ length out.old }
-    ensures { Printed out.old at (row numbers.now) out.new result }
+fn print_row<const N: usize>(out: &mut ArrayVec<u8, N>, numbers: &[u64])
+    requires { array_vec_len out.old + length (row numbers.now) ≤ N }
+    ensures { out.new.items ≡ out.old.items ++ row numbers.now }
 {
     let Some((last, front)) = numbers.split_last() else {
-        return at;
+        return;
     };
-    let mut place = at;
     for n in front {
-        place = print_closed(out, place, *n, b',');
+        print_closed(out, *n, b',');
     }
-    print_closed(out, place, *last, b'\n')
+    print_closed(out, *last, b'\n');
 }
 
 // An answer: the line's number and document 01's number.
 #[tactic(auto, using(crate::proofs::Printing::answer_short), unfolding(crate::specs::Answer::answer_line))]
-pub fn print_answer(out: &mut [u8], at: usize, line: u64, number: u32) -> usize
-    requires { at + 64 ≤ length out.old }
-    ensures { Printed out.old at (answer_line line number) out.new result }
+pub fn print_answer<const N: usize>(out: &mut ArrayVec<u8, N>, line: u64, number: u32)
+    requires { array_vec_len out.old + 64 ≤ N }
+    ensures { out.new.items ≡ out.old.items ++ answer_line line number }
 {
-    print_row(out, at, &[line, u64::from(number)])
+    print_row(out, &[line, u64::from(number)]);
 }
 
 // The first line of an accepted collection, with the step count and the entry count.
 #[tactic(auto, using(crate::proofs::Printing::collected_short), unfolding(crate::specs::Answer::collected_line))]
-pub fn print_collected(out: &mut [u8], at: usize, line: u64, steps: u32, entries: u32) -> usize
-    requires { at + 64 ≤ length out.old }
-    ensures { Printed out.old at (collected_line line steps entries) out.new result }
+pub fn print_collected<const N: usize>(
+    out: &mut ArrayVec<u8, N>,
+    line: u64,
+    steps: u32,
+    entries: u32,
+)
+    requires { array_vec_len out.old + 64 ≤ N }
+    ensures { out.new.items ≡ out.old.items ++ collected_line line steps entries }
 {
-    print_row(out, at, &[line, 0, u64::from(steps), u64::from(entries)])
+    print_row(out, &[line, 0, u64::from(steps), u64::from(entries)]);
 }
 
 // An entry: object, x, y, tag.
 #[tactic(auto, using(crate::proofs::Printing::entry_short), unfolding(crate::specs::Answer::entry_line))]
-pub fn print_entry(out: &mut [u8], at: usize, oid: u32, x: u32, y: u32, tag: u32) -> usize
-    requires { at + 44 ≤ length out.old }
-    ensures { Printed out.old at (entry_line oid x y tag) out.new result }
+pub fn print_entry<const N: usize>(out: &mut ArrayVec<u8, N>, oid: u32, x: u32, y: u32, tag: u32)
+    requires { array_vec_len out.old + 44 ≤ N }
+    ensures { out.new.items ≡ out.old.items ++ entry_line oid x y tag }
 {
     print_row(
         out,
-        at,
         &[u64::from(oid), u64::from(x), u64::from(y), u64::from(tag)],
-    )
+    );
 }

@@ -1,5 +1,5 @@
 -- THE NUMBERS THAT A CALL GIVES: document 01's table, in its order. Each line has document 01's word and when the number is given.
--- Definitions, causes and statements of the operations cite the names, and so does their code, which has the same ones in src/lib.rt.
+-- Definitions, causes and statements of the operations cite the names; which case of the code has which, is in calls/specs/Refusals.antt.
 use Rattle.std.specs.Prelude.{ℕ}
 
 -- ---- accepted

@@ -35,48 +35,6 @@ pub const LAST_TAG: u32 = 9;
 // The number of 'no bucket', where a cell or a bucket names the next one.
 pub const NO_BUCKET: u32 = 512;
 
-// The numbers that a call gives: document 01's table, with its words in specs/Numbers.antt.
-// Accepted: done 0, and of a step also blocked 20, restarted 21 and finished 22. Every other number is a refusal.
-pub const DONE: u32 = 0;
-
-pub const BLOCKED: u32 = 20;
-
-pub const RESTARTED: u32 = 21;
-
-pub const FINISHED: u32 = 22;
-
-pub const NO_SUCH_LANE: u32 = 1;
-
-pub const LANE_TAKEN: u32 = 2;
-
-pub const LANE_IDLE: u32 = 3;
-
-pub const NO_OBJECT: u32 = 4;
-
-pub const OFF_GRID: u32 = 5;
-
-pub const CROSSED_CORNERS: u32 = 6;
-
-pub const GRID_FULL: u32 = 7;
-
-pub const CLOCK_EXHAUSTED: u32 = 8;
-
-pub const QUERY_FINISHED: u32 = 9;
-
-pub const QUERY_UNFINISHED: u32 = 10;
-
-pub const SHORT_OUTPUT: u32 = 11;
-
-pub const CORRUPT: u32 = 12;
-
-pub const UNREADABLE: u32 = 13;
-
-pub const BUSY: u32 = 30;
-
-pub const TAG_OVER: u32 = 31;
-
-pub const RADIUS_OVER: u32 = 32;
-
 // A stored number is out of its range, or what has to be there is missing: document 01's broken tables.
 #[derive(Clone, Copy, Debug, PartialEq, Eq)]
 pub struct Corrupt;

@@ -4,6 +4,7 @@ use mathlib.Core.Path.{◌≡◌, refl, sym, ap, ◌∙◌}
 use mathlib.Core.Logic.{◌≢◌}
 use mathlib.Core.Bool.{Bool, true, false}
 use mathlib.Core.List.{List}
+use Rattle.std.specs.Prelude.{Result as Ended, Ok, Err}
 use Prim.Native.Nat.{ℕ, zero, suc, ◌+◌, ◌-◌, ◌<◌, ◌≤◌}
 use native.Mathlib.Omega.{arith}
 use lib.Dec.{eqb}
@@ -14,6 +15,13 @@ use Rattle.base.specs.Outcome.{pick}
 use Rattle.tables.specs.Tables.{Tables}
 use Rattle.calls.specs.Call.{Result, After, after, after_of, placed}
 use Rattle.calls.specs.Run.{Ran, ran_of, carried_out, later, run_steps}
+use Rattle.calls.specs.Refusals.{refusal_number, pace_number, told_step}
+use Rattle.calls.specs.declared.refusal.Refusal.{Refusal}
+use Rattle.calls.specs.declared.refusal.Refusal.TheVariants.{NoSuchLane, LaneTaken, LaneIdle, NoObject, OffGrid, CrossedCorners, GridFull, ClockExhausted}
+use Rattle.calls.specs.declared.refusal.Refusal.TheVariants.{QueryFinished, QueryUnfinished, ShortOutput, Corrupt, Unreadable, Busy, TagOver, RadiusOver}
+use Rattle.calls.specs.declared.pace.Pace.{Pace}
+use Rattle.calls.specs.declared.pace.Pace.TheVariants.{Moved, Blocked, Restarted, Finished}
+use Rattle.calls.specs.declared.pace.Stepped.{Stepped}
 
 -- ---- one step more
 
@@ -38,6 +46,35 @@ module _ {L : Type 0} (step : Tables → L → Result L) where
     pub run_goes : (m : ℕ) → 0 < m → k ≡ 0 → run_steps step m t u ≡ later 1 (run_steps step (m - 1) t' u')
     unfolding pick
     run_goes m h z = run_first m h ∙ rw (eq-eqb k 0 z)
+
+-- ---- how a step went, as a Result tells it
+
+-- a refused step does not go on, and does not count
+pub no_step : (r : Refusal) → (refusal_number r ≢ 0) × (carried_out (refusal_number r) ≡ 0)
+unfolding carried_out pick
+no_step NoSuchLane = (λ z. omega arith, refl)
+no_step LaneTaken = (λ z. omega arith, refl)
+no_step LaneIdle = (λ z. omega arith, refl)
+no_step NoObject = (λ z. omega arith, refl)
+no_step OffGrid = (λ z. omega arith, refl)
+no_step CrossedCorners = (λ z. omega arith, refl)
+no_step GridFull = (λ z. omega arith, refl)
+no_step ClockExhausted = (λ z. omega arith, refl)
+no_step QueryFinished = (λ z. omega arith, refl)
+no_step QueryUnfinished = (λ z. omega arith, refl)
+no_step ShortOutput = (λ z. omega arith, refl)
+no_step Corrupt = (λ z. omega arith, refl)
+no_step Unreadable = (λ z. omega arith, refl)
+no_step Busy = (λ z. omega arith, refl)
+no_step TagOver = (λ z. omega arith, refl)
+no_step RadiusOver = (λ z. omega arith, refl)
+
+-- only one that moves on has number 0
+pub not_moved : (p : Pace) → p ≢ Moved → pace_number p ≢ 0
+not_moved Moved z = absurd (z refl)
+not_moved Blocked z = λ e. omega arith
+not_moved Restarted z = λ e. omega arith
+not_moved Finished z = λ e. omega arith
 
 -- ---- when so many steps are made
 
@@ -79,6 +116,28 @@ module _ {L : Type 0} (step : Tables → L → Result L) (n : ℕ) (t₀ : Table
                 ∙ ap (λ (k : ℕ). ran_of r.number k r.tables r.lanes) m#
                 ∙ ap (λ (m : ℕ). later (made + 1) (run_steps step m t' u')) n#;
           }
+
+    -- the same of a step that is told as a Result
+    module _ (r : Ended (Stepped L) Refusal) (t' : Tables) (e : after t u (step t u) ≡ told_step u r t') (more : made < n) where
+      told_so : {q : Ended (Stepped L) Refusal} → r ≡ q → after t u (step t u) ≡ told_step u q t'
+      told_so p = e ∙ ap (λ (q : Ended (Stepped L) Refusal). told_step u q t') p
+
+      -- one that does not move on
+      pub told_ends : {s : Stepped L} → r ≡ Ok s → s.pace ≢ Moved → (m : ℕ) → m ≡ carried_out (pace_number s.pace)
+          → run_steps step n t₀ u₀ ≡ ran_of (pace_number s.pace) (made + m) t' s.lanes
+      told_ends {s} p z m em =
+          running_ends (pace_number s.pace) t' s.lanes (told_so p) more (not_moved s.pace z)
+          ∙ ap (λ (j : ℕ). ran_of (pace_number s.pace) (made + j) t' s.lanes) (sym em)
+
+      -- one that is refused
+      pub told_refused : {a : Refusal} → r ≡ Err a → run_steps step n t₀ u₀ ≡ ran_of (refusal_number a) made t' u
+      told_refused {a} p =
+          let o : made + carried_out (refusal_number a) ≡ made = omega (arith, (no_step a).1) in
+          running_ends (refusal_number a) t' u (told_so p) more (no_step a).0 ∙ ap (λ (j : ℕ). ran_of (refusal_number a) j t' u) o
+
+      -- one that moves on
+      pub told_more : {s : Stepped L} → r ≡ Ok s → s.pace ≡ Moved → Running step n t₀ u₀ t' s.lanes (made + 1)
+      told_more {s} p z = running_more (pace_number s.pace) t' s.lanes (told_so p) more (ap (λ (q : Pace). pace_number q) z)
 
 -- ---- a run of one lane among the lanes
 

@@ -1,3 +1,4 @@
 pub mod Call
 pub mod Causes
+pub mod Refusals
 pub mod Run

@@ -1,3 +1,4 @@
+pub mod Answers
 mod Doing
 mod First
 pub mod Stored

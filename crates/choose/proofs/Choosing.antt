@@ -5,10 +5,10 @@ use mathlib.Core.Logic.{◌≢◌}
 use mathlib.Core.Bool.{Bool, true, false}
 use Rattle.std.specs.Prelude.{Option, None, Some}
 use mathlib.Core.List.{List}
-use Prim.Native.Nat.{ℕ}
+use Prim.Native.Nat.{ℕ, ◌+◌, ◌<◌}
 use lib.IntN.{ℤ}
 use lib.ListN.{length}
-use borrow.Author.Tests.{eq-eqb, ne_eqb}
+use borrow.Author.Tests.{eq-eqb, ne_eqb, lt-ltb}
 use Rattle.base.specs.Outcome.{Outcome, corrupt, blocked, done, need, pick, and_then}
 use Rattle.base.specs.Step.{Said, said, turned, turn_tells, turn_leaves, lift}
 use Rattle.base.proofs.Step.{lifted}
@@ -29,7 +29,7 @@ use Rattle.tables.proofs.Grid.{put_cells_lem}
 use Rattle.tables.proofs.Entries.{current_lent}
 use Rattle.cells.specs.On.{overwrite_on}
 use Rattle.base.proofs.Turns.{halts, moves}
-use Rattle.stage.specs.Turn.{advance, at_entry, drawn, hold}
+use Rattle.stage.specs.Turn.{advance, at_entry, draw, drawn, hold}
 use Rattle.stage.proofs.Draw.{draw_refused, draw_made}
 use Rattle.stage.proofs.Entry.{entry_missing, entry_found}
 use Rattle.stage.specs.declared.Stage.{Stage}
@@ -94,6 +94,19 @@ module _ (t : Tables) (p : Place) (k x y m : ℕ) where
     rewrite_done (d, f, q) t' r =
         moves (put_placing t) t (rewrite (placing_in t) p k x y m) t' 0 ReleaseObject (placing_of t.cells d n)
         (rw (draw_made t.clock _ e, f)) (r ∙ ap (λ (v : Tables). with_clock v n) (sym q))
+
+  -- the same by the clock
+  module _ (n : ℕ) (n= : t.clock ≡ n) (n< : n < 2147483647) (u : Tables) where
+    pub rewrite_no : overwrite_on t p.bucket p.slot k x y m (n + 1) ≡ corrupt → u ≡ t → turned t (rewrite_on t p k x y m) ≡ (said 12 None, u)
+    unfolding rewrite_on rewrite draw need and_then
+    rewrite_no e q = halts (put_placing t) t (rewrite (placing_in t) p k x y m) u (rw (n=, lt-ltb n 2147483647 n<, e)) q
+
+    pub rewrite_yes : (d : Tuples) → overwrite_on t p.bucket p.slot k x y m (n + 1) ≡ done d → with_tuples t d ≡ u → (t' : Tables) → t' ≡ with_clock u (n + 1)
+        → turned t (rewrite_on t p k x y m) ≡ (said 0 (Some ReleaseObject), t')
+    unfolding rewrite_on rewrite draw need and_then
+    rewrite_yes d e q t' r =
+        moves (put_placing t) t (rewrite (placing_in t) p k x y m) t' 0 ReleaseObject (placing_of t.cells d (n + 1))
+        (rw (n=, lt-ltb n 2147483647 n<, e)) (r ∙ ap (λ (v : Tables). with_clock v (n + 1)) (sym q))
 
 -- ---- the stage
 

@@ -1,5 +1,5 @@
 // Stage 8 of an update (document 01: the stages of a report): the tuple is overwritten in its cell, or another cell is locked for it.
-// On the words that hold all tables; their number is the caller's to check. The clock is stored last, when nothing can refuse.
+// On the words that hold all tables. The clock is stored last, when nothing can refuse.
 #![tactic(auto)]
 
 ghost use Rattle.std.specs.Prelude.{◌≡◌, List, ℤ};

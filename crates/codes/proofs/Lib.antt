@@ -2,4 +2,4 @@ pub mod Updaters
 pub mod Queries
 pub mod Rest
 mod Chunks
-mod Stores
+pub mod Stores

@@ -1,14 +1,16 @@
 -- CODING AND DECODING OF QUERY LANES ARE INVERSE: as Updaters.antt says it of update lanes.
 use mathlib.Core.Path.{◌≡◌, refl, sym, ap, ◌∙◌}
+use mathlib.Core.Logic.{◌≢◌}
 use mathlib.Core.Bool.{true, and-eq-true_iff}
-use mathlib.Core.List.{List}
-use Prim.Native.Nat.{ℕ, ◌*◌, ◌-◌, ◌<◌, ◌≤◌}
+use mathlib.Core.List.{List, [], ◌∷◌}
+use Prim.Native.Nat.{ℕ, zero, suc, ◌+◌, ◌*◌, ◌-◌, ◌<◌, ◌≤◌}
 use native.Mathlib.Omega.{arith}
 use Rattle.std.proofs.lemmas.Bool.Decides.{nat_tests}
 use Rattle.std.proofs.lemmas.List.{take-replicate, drop-replicate}
 use lib.Dec.{eqb, leb}
-use lib.ListN.{length, take, replicate}
-use borrow.Author.Tests.{leb-true}
+use lib.ListN.{length, set, take, replicate}
+use lib.Seq.{sets, set-get_or}
+use borrow.Author.Tests.{ne_eqb, leb-true}
 use Rattle.base.specs.Outcome.{pick}
 use Rattle.base.specs.Table.{at}
 use Rattle.words.specs.Part.{part, put}
@@ -20,9 +22,11 @@ use Rattle.query.specs.declared.Scan.TheVariants.{Idle, Enter, Read, Finished}
 use Rattle.query.specs.declared.Query.{Query}
 use Rattle.regions.specs.declared.region.Kind.{Kind}
 use Rattle.regions.specs.declared.region.Kind.TheVariants.{Touching, Within, Centre}
-use Rattle.queries.specs.Query.{is_idle, idle_query}
-use Rattle.codes.specs.Queries.{code_kind, kind_of, names_kind, standing_of, code_scan, scan_of, code_query, decode_query, scan_in, kind_in, names_query, query_in, with_query}
-use Rattle.codes.proofs.Stores.{sets_put}
+use Rattle.regions.specs.declared.region.Region.{Region}
+use Rattle.queries.specs.Query.{is_idle, idle_query, question_of}
+use Rattle.codes.specs.Queries.{code_kind, kind_of, names_kind, rectangle_of, asked_by, standing_of, code_scan, scan_of, code_query, decode_query, scan_in, kind_in, names_query, query_in, with_query}
+use Rattle.codes.specs.declared.query_lane.ScanCode.{ScanCode}
+use Rattle.codes.proofs.Stores.{sets_put, thirteen}
 
 pub scan_back : (s : Scan) → scan_of (code_scan s).stage (code_scan s).cell (code_scan s).at ≡ s
 unfolding code_scan scan_of pick
@@ -51,6 +55,19 @@ kind_named Touching = refl
 kind_named Within = refl
 kind_named Centre = refl
 
+-- a number that names a kind is its code
+pub code_kind_lem : (n : ℕ) → n ≤ 2 → code_kind (kind_of n) ≡ n
+unfolding code_kind kind_of pick
+code_kind_lem zero h = refl
+code_kind_lem (suc zero) h = refl
+code_kind_lem (suc (suc zero)) h = refl
+code_kind_lem (suc (suc (suc n))) h = absurd (omega arith)
+
+-- any other is touching's
+pub kind_else : (n : ℕ) → n ≢ 1 → n ≢ 2 → kind_of n ≡ Touching
+unfolding kind_of pick
+kind_else n h1 h2 = rw (ne_eqb n 1 h1, ne_eqb n 2 h2)
+
 pub decode_code : (q : Query) → decode_query (code_query q) ≡ q
 unfolding decode_query code_query
 decode_code q =
@@ -65,6 +82,81 @@ code_decode q v e = ap code_query (ap decode_query e ∙ decode_code q) ∙ sym 
 thirteen_long : (q : Query) → length (code_query q) ≡ 13
 unfolding code_query
 thirteen_long q = refl
+
+-- a number that names nothing
+pub scan_else : (n c : ℕ) (s : Standing) → n ≢ 1 → n ≢ 2 → n ≢ 3 → scan_of n c s ≡ Idle
+unfolding scan_of pick
+scan_else n c s h1 h2 h3 = rw (ne_eqb n 1 h1, ne_eqb n 2 h2, ne_eqb n 3 h3)
+
+-- ---- numbers read and stored
+
+-- the numbers of a lane that begin at a, read one by one
+pub load_lane : (ns : List ℕ) (a : ℕ) (k : Kind) (s : Scan) → k ≡ kind_of (at ns a)
+    → s ≡ scan_of (at ns (a + 9)) (at ns (a + 10)) (standing_of (at ns (a + 11)) (at ns (a + 12)))
+    → query_of (question_of k (at ns (a + 1)) (at ns (a + 2)) (at ns (a + 3)) (at ns (a + 4)) (at ns (a + 5))) (at ns (a + 6)) (at ns (a + 7)) (at ns (a + 8)) s
+    ≡ decode_query (part a 13 ns)
+unfolding decode_query
+load_lane ns a k s ek e =
+    let p0 : at (part a 13 ns) 0 ≡ at ns a = part_at ns a 13 0 0 (omega arith) ∙ ap (at ns) (omega arith) in
+    let p1 : at (part a 13 ns) 1 ≡ at ns (a + 1) = part_at ns a 13 1 0 (omega arith) in
+    let p2 : at (part a 13 ns) 2 ≡ at ns (a + 2) = part_at ns a 13 2 0 (omega arith) in
+    let p3 : at (part a 13 ns) 3 ≡ at ns (a + 3) = part_at ns a 13 3 0 (omega arith) in
+    let p4 : at (part a 13 ns) 4 ≡ at ns (a + 4) = part_at ns a 13 4 0 (omega arith) in
+    let p5 : at (part a 13 ns) 5 ≡ at ns (a + 5) = part_at ns a 13 5 0 (omega arith) in
+    let p6 : at (part a 13 ns) 6 ≡ at ns (a + 6) = part_at ns a 13 6 0 (omega arith) in
+    let p7 : at (part a 13 ns) 7 ≡ at ns (a + 7) = part_at ns a 13 7 0 (omega arith) in
+    let p8 : at (part a 13 ns) 8 ≡ at ns (a + 8) = part_at ns a 13 8 0 (omega arith) in
+    let p9 : at (part a 13 ns) 9 ≡ at ns (a + 9) = part_at ns a 13 9 0 (omega arith) in
+    let p10 : at (part a 13 ns) 10 ≡ at ns (a + 10) = part_at ns a 13 10 0 (omega arith) in
+    let p11 : at (part a 13 ns) 11 ≡ at ns (a + 11) = part_at ns a 13 11 0 (omega arith) in
+    let p12 : at (part a 13 ns) 12 ≡ at ns (a + 12) = part_at ns a 13 12 0 (omega arith) in
+    (λ j. query_of (question_of (ek j) (at ns (a + 1)) (at ns (a + 2)) (at ns (a + 3)) (at ns (a + 4)) (at ns (a + 5))) (at ns (a + 6)) (at ns (a + 7)) (at ns (a + 8)) (e j))
+    ∙ sym (λ j. query_of (asked_by (p0 j) (rectangle_of (p1 j) (p2 j) (p3 j) (p4 j)) (p5 j)) (p6 j) (p7 j) (p8 j) (scan_of (p9 j) (p10 j) (standing_of (p11 j) (p12 j))))
+
+-- a query that is over
+abbrev pub over : Query → Query
+over q = query_of q.question q.stamp q.hits q.steps Idle
+
+module _ (ns : List ℕ) (a : ℕ) where
+  -- stored one behind the other
+  pub store_lane : (q : Query) (k : ℕ) (c : ScanCode) → k ≡ code_kind q.question.kind → c ≡ code_scan q.stage
+      → set (set (set (set (set (set (set (set (set (set (set (set (set ns a k) (a + 1) q.question.area.x0) (a + 2) q.question.area.y0) (a + 3) q.question.area.x1) (a + 4) q.question.area.y1) (a + 5) q.question.radius) (a + 6) q.stamp) (a + 7) q.hits) (a + 8) q.steps) (a + 9) c.stage) (a + 10) c.cell) (a + 11) c.at.bucket) (a + 12) c.at.left
+      ≡ sets ns a (code_query q)
+  unfolding code_query
+  store_lane q k c ek e =
+      thirteen ns a _ _ _ _ _ _ _ _ _ _ _ _ _
+      ∙ (λ j. let d = e j in sets ns a (ek j ∷ q.question.area.x0 ∷ q.question.area.y0 ∷ q.question.area.x1 ∷ q.question.area.y1 ∷ q.question.radius ∷ q.stamp ∷ q.hits ∷ q.steps ∷ d.stage ∷ d.cell ∷ d.at.bucket ∷ d.at.left ∷ []))
+
+  -- a query that begins
+  pub store_first : (u : Region) (k t c : ℕ) → k ≡ code_kind u.kind
+      → set (set (set (set (set (set (set (set (set (set (set (set (set ns a k) (a + 1) u.area.x0) (a + 2) u.area.y0) (a + 3) u.area.x1) (a + 4) u.area.y1) (a + 5) u.radius) (a + 6) t) (a + 7) 0) (a + 8) 0) (a + 9) 1) (a + 10) c) (a + 11) 0) (a + 12) 0
+      ≡ sets ns a (code_query (query_of u t 0 0 (Enter c)))
+  unfolding code_query code_scan
+  store_first u k t c ek =
+      thirteen ns a _ _ _ _ _ _ _ _ _ _ _ _ _
+      ∙ ap (λ (n : ℕ). sets ns a (n ∷ u.area.x0 ∷ u.area.y0 ∷ u.area.x1 ∷ u.area.y1 ∷ u.radius ∷ t ∷ 0 ∷ 0 ∷ 1 ∷ c ∷ 0 ∷ 0 ∷ [])) ek
+
+  -- a query that is over
+  pub store_over : names_kind (at ns a) ≡ true
+      → set (set (set (set ns (a + 9) 0) (a + 10) 0) (a + 11) 0) (a + 12) 0 ≡ sets ns a (code_query (over (decode_query (part a 13 ns))))
+  unfolding code_query code_scan decode_query
+  store_over h =
+      let p0 : at (part a 13 ns) 0 ≡ at ns a = part_at ns a 13 0 0 (omega arith) ∙ ap (at ns) (omega arith) in
+      let p1 : at (part a 13 ns) 1 ≡ at ns (a + 1) = part_at ns a 13 1 0 (omega arith) in
+      let p2 : at (part a 13 ns) 2 ≡ at ns (a + 2) = part_at ns a 13 2 0 (omega arith) in
+      let p3 : at (part a 13 ns) 3 ≡ at ns (a + 3) = part_at ns a 13 3 0 (omega arith) in
+      let p4 : at (part a 13 ns) 4 ≡ at ns (a + 4) = part_at ns a 13 4 0 (omega arith) in
+      let p5 : at (part a 13 ns) 5 ≡ at ns (a + 5) = part_at ns a 13 5 0 (omega arith) in
+      let p6 : at (part a 13 ns) 6 ≡ at ns (a + 6) = part_at ns a 13 6 0 (omega arith) in
+      let p7 : at (part a 13 ns) 7 ≡ at ns (a + 7) = part_at ns a 13 7 0 (omega arith) in
+      let p8 : at (part a 13 ns) 8 ≡ at ns (a + 8) = part_at ns a 13 8 0 (omega arith) in
+      let k0 : code_kind (kind_of (at ns a)) ≡ at ns a = code_kind_lem (at ns a) (leb-true (at ns a) 2 h) in
+      let same : set (set (set (set (set (set (set (set (set ns a (at ns a)) (a + 1) (at ns (a + 1))) (a + 2) (at ns (a + 2))) (a + 3) (at ns (a + 3))) (a + 4) (at ns (a + 4))) (a + 5) (at ns (a + 5))) (a + 6) (at ns (a + 6))) (a + 7) (at ns (a + 7))) (a + 8) (at ns (a + 8)) ≡ ns =
+      simp set-get_or in
+      ap (λ (l : List ℕ). set (set (set (set l (a + 9) 0) (a + 10) 0) (a + 11) 0) (a + 12) 0) (sym same)
+      ∙ thirteen ns a _ _ _ _ _ _ _ _ _ _ _ _ _
+      ∙ sym (ap (λ (n : ℕ). sets ns a (n ∷ at (part a 13 ns) 1 ∷ at (part a 13 ns) 2 ∷ at (part a 13 ns) 3 ∷ at (part a 13 ns) 4 ∷ at (part a 13 ns) 5 ∷ at (part a 13 ns) 6 ∷ at (part a 13 ns) 7 ∷ at (part a 13 ns) 8 ∷ 0 ∷ 0 ∷ 0 ∷ 0 ∷ [])) (ap (λ (m : ℕ). code_kind (kind_of m)) p0 ∙ k0)
+      ∙ (λ j. sets ns a (at ns a ∷ p1 j ∷ p2 j ∷ p3 j ∷ p4 j ∷ p5 j ∷ p6 j ∷ p7 j ∷ p8 j ∷ 0 ∷ 0 ∷ 0 ∷ 0 ∷ [])))
 
 -- ---- in a lane
 
@@ -101,8 +193,13 @@ named_parts ns l h =
     (leb-true (scan_in ns l) 3 s.0, s.1)
 
 module _ (ns : List ℕ) (l : ℕ) where
-  scan_read : at (part (13 * l) 13 ns) 9 ≡ scan_in ns l
+  pub scan_read : at (part (13 * l) 13 ns) 9 ≡ scan_in ns l
   scan_read = part_at ns (13 * l) 13 9 0 (omega arith)
+
+  pub kind_read : at (part (13 * l) 13 ns) 0 ≡ kind_in ns l
+  kind_read =
+      let first : 13 * l + 0 ≡ 13 * l = omega arith in
+      part_at ns (13 * l) 13 0 0 (omega arith) ∙ ap (at ns) first
 
   -- the number tells whether the lane is idle
   pub lane_seen : scan_in ns l ≤ 3 → is_idle (query_in ns l).stage ≡ eqb (scan_in ns l) 0

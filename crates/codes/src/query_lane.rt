@@ -1,12 +1,10 @@
 // A lane of a query in thirteen numbers: kind of question (0 touching, 1 within, 2 centre), x0, y0, x1, y1, radius,
 // stamp, hits, steps, number of what comes next (0 idle, 1 enter a cell, 2 read, 3 finished), cell, bucket, slots left.
 // What does not come next is 0.
-ghost use Rattle.std.specs.Prelude.{◌≡◌, ◌&&◌, ◌+◌, ◌≤◌, eqb, leb};
-ghost use Rattle.std.proofs.lemmas.List.Edits.{sets};
-ghost use Rattle.words.specs.Part.{part};
+ghost use Rattle.std.specs.Prelude.{◌≡◌, ◌&&◌, eqb, leb};
 ghost use Rattle.queries.specs.Query.{is_idle};
 ghost use Rattle.base.specs.Table.{at as entry};
-ghost use Rattle.codes.specs.Queries.{QUERY-NUMBERS, code_kind, kind_of, names_kind, code_scan, scan_of, code_query, decode_query};
+ghost use Rattle.codes.specs.Queries.{SCAN-AT, LAST-SCAN, code_kind, kind_of, names_kind, code_scan, scan_of, code_query, decode_query};
 
 use layout::question::Question as Rectangle;
 use query::{Query, Scan};
@@ -59,7 +57,8 @@ impl From<ScanCode> for Scan {
     }
 }
 
-// The number of a kind of question. Kind is of another crate, so that no From or TryFrom of it and u32 can stand here.
+// The number of a kind of question. The numbers are those of a coded lane only, so they stand here and not in regions;
+// outside Kind's crate no From can stand.
 fn code_kind(k: Kind) -> u32
     ensures { result ≡ code_kind k }
 {
@@ -81,12 +80,11 @@ pub fn kind_of(n: u32) -> Kind
     }
 }
 
-// Whether the numbers of a lane that begin there name what comes next and a kind of question.
-pub fn names_query(lanes: &[u32; 52], at: usize) -> bool
-    requires { at ≤ 39 }
-    ensures { result ≡ (leb (entry lanes.now (at + 9)) 3 && names_kind (entry lanes.now at)) }
+// Whether the numbers of a lane name what comes next and a kind of question.
+pub fn names_query(lane: &[u32; QUERY_NUMBERS]) -> bool
+    ensures { result ≡ (leb (entry lane.now SCAN-AT) LAST-SCAN && names_kind (entry lane.now 0)) }
 {
-    lanes[at + SCAN_AT] <= LAST_SCAN && lanes[at] <= LAST_KIND
+    lane[SCAN_AT] <= LAST_SCAN && lane[0] <= LAST_KIND
 }
 
 // A query that is idle exactly if the number of what comes next says so: all that a start looks at.
@@ -114,10 +112,9 @@ pub fn seen_query(stage: u32) -> Query
     }
 }
 
-// The query whose numbers begin there.
-pub fn load_query(lanes: &[u32; 52], at: usize) -> Query
-    requires { at ≤ 39 }
-    ensures { result ≡ decode_query (part at QUERY-NUMBERS lanes.now) }
+// The query whose numbers these are.
+pub fn decode_query(lane: &[u32; QUERY_NUMBERS]) -> Query
+    ensures { result ≡ decode_query lane.now }
 {
     let &[
         kind,
@@ -133,7 +130,7 @@ pub fn load_query(lanes: &[u32; 52], at: usize) -> Query
         cell,
         bucket,
         left,
-    ] = lanes[at..].first_chunk::<QUERY_NUMBERS>().unwrap();
+    ] = lane;
     let code = ScanCode {
         stage,
         cell,
@@ -152,15 +149,13 @@ pub fn load_query(lanes: &[u32; 52], at: usize) -> Query
     }
 }
 
-// Stores the numbers of a query from there on.
-#[tactic(auto, using(crate::proofs::Stores::copied), unfolding(crate::specs::Queries::code_query))]
-pub fn store_query(lanes: &mut [u32; 52], at: usize, q: Query)
-    requires { at ≤ 39 }
-    ensures { lanes.new ≡ sets lanes.old at (code_query q) }
+// The numbers of a query.
+pub fn code_query(q: Query) -> [u32; QUERY_NUMBERS]
+    ensures { result ≡ code_query q }
 {
     let Region { kind, area, radius } = q.question;
     let code = ScanCode::from(q.stage);
-    lanes[at..at + QUERY_NUMBERS].copy_from_slice(&[
+    [
         code_kind(kind),
         area.x0,
         area.y0,
@@ -174,5 +169,5 @@ pub fn store_query(lanes: &mut [u32; 52], at: usize, q: Query)
         code.cell,
         code.at.bucket,
         code.at.left,
-    ]);
+    ]
 }

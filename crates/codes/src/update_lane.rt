@@ -1,10 +1,10 @@
-// A lane of an update in ten numbers: object, x, y, tag, number of the stage (0 idle, 1 to 14 as document 01 counts them), cell, bucket and slot of the place,
-// the object that moves, the unlinked bucket. What a stage does not carry is 0.
-ghost use Rattle.std.specs.Prelude.{◌≡◌, ◌≤◌, eqb};
-ghost use Rattle.std.proofs.lemmas.List.Edits.{sets};
-ghost use Rattle.words.specs.Part.{part};
+// A lane of an update in ten numbers: object, x, y, tag, number of the stage (0 idle, 1 to 14 as document 01 counts
+// them), cell, bucket and slot of the place, the object that moves, the unlinked bucket. What a stage does not carry is
+// 0.
+ghost use Rattle.std.specs.Prelude.{◌≡◌, eqb, leb};
+ghost use Rattle.base.specs.Table.{at};
 ghost use Rattle.stage.specs.Turn.{is_idle};
-ghost use Rattle.codes.specs.Updaters.{UPDATER-NUMBERS, code_stage, stage_of, code_updater, decode_updater};
+ghost use Rattle.codes.specs.Updaters.{STAGE-AT, LAST-STAGE, code_stage, stage_of, code_updater, decode_updater};
 
 use layout::place::Place;
 use stage::{Stage, Updater};
@@ -101,14 +101,18 @@ pub fn seen_updater(stage: u32) -> Updater
     }
 }
 
-// The update whose numbers begin there.
-pub fn load_updater(lanes: &[u32; 80], at: usize) -> Updater
-    requires { at ≤ 70 }
-    ensures { result ≡ decode_updater (part at UPDATER-NUMBERS lanes.now) }
+// Whether the number of a lane's stage names one.
+pub fn names_stage(lane: &[u32; UPDATER_NUMBERS]) -> bool
+    ensures { result ≡ leb (at lane.now STAGE-AT) LAST-STAGE }
 {
-    let &[oid, x, y, tag, stage, cell, bucket, slot, moved, unlinked] = lanes[at..]
-        .first_chunk::<UPDATER_NUMBERS>()
-        .unwrap();
+    lane[STAGE_AT] <= LAST_STAGE
+}
+
+// The update whose numbers these are.
+pub fn decode_updater(lane: &[u32; UPDATER_NUMBERS]) -> Updater
+    ensures { result ≡ decode_updater lane.now }
+{
+    let &[oid, x, y, tag, stage, cell, bucket, slot, moved, unlinked] = lane;
     let code = StageCode {
         stage,
         place: Place { cell, bucket, slot },
@@ -124,14 +128,12 @@ pub fn load_updater(lanes: &[u32; 80], at: usize) -> Updater
     }
 }
 
-// Stores the numbers of an update from there on.
-#[tactic(auto, using(crate::proofs::Stores::copied), unfolding(crate::specs::Updaters::code_updater))]
-pub fn store_updater(lanes: &mut [u32; 80], at: usize, u: Updater)
-    requires { at ≤ 70 }
-    ensures { lanes.new ≡ sets lanes.old at (code_updater u) }
+// The numbers of an update.
+pub fn code_updater(u: Updater) -> [u32; UPDATER_NUMBERS]
+    ensures { result ≡ code_updater u }
 {
     let code = StageCode::from(u.stage);
-    lanes[at..at + UPDATER_NUMBERS].copy_from_slice(&[
+    [
         u.oid,
         u.x,
         u.y,
@@ -142,5 +144,5 @@ pub fn store_updater(lanes: &mut [u32; 80], at: usize, u: Updater)
         code.place.slot,
         code.moved,
         code.bucket,
-    ]);
+    ]
 }

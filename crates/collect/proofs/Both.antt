@@ -1,6 +1,6 @@
 -- A COLLECTION IS A READING AND THEN THE CLEARING, for all tables, lanes and lent lists: refused as the reading is, and then nothing is cleared; else number, steps
 -- and list are those of the reading, and the lanes are those that the clearing leaves. And the tests that a collection makes, written out. By the cases of a reading.
-use mathlib.Core.Path.{◌≡◌, refl, ap, ◌∙◌}
+use mathlib.Core.Path.{◌≡◌, refl, sym, ap, ◌∙◌}
 use mathlib.Core.Logic.{◌≢◌}
 use mathlib.Core.Bool.{Bool, true, false, not}
 use mathlib.Core.List.{List, []}
@@ -9,9 +9,13 @@ use lib.Dec.{eqb, ltb, leb}
 use lib.ListN.{length, get_or}
 use borrow.Author.Tests.{ne_eqb}
 use Rattle.base.specs.Outcome.{pick}
+use Rattle.std.specs.Prelude.{Result as Answer, Ok, Err, IsOk}
 use Rattle.query.specs.declared.Query.{Query}
 use Rattle.tables.specs.Tables.{Tables, right_lengths}
-use Rattle.calls.specs.Call.{Result, answered, after, after_of, unless}
+use Rattle.calls.specs.Call.{Result, answered, After, after, after_of, unless}
+use Rattle.calls.specs.Refusals.{told_call}
+use Rattle.calls.specs.declared.refusal.Refusal.{Refusal}
+use Rattle.calls.proofs.Runs.{no_step}
 use Rattle.queries.specs.Query.{idle_query, is_idle, is_finished}
 use Rattle.collect.specs.Collect.{Handed, handed_of, read_query, clear_query, cleared, then_clear, collect_query}
 use Rattle.collect.specs.Filling.{Filling, filling_of, written, read_into, collect_into}
@@ -42,6 +46,23 @@ module _ (t : Tables) (qs : List Query) (l : ℕ) (out : List ℕ) where
   both_refused {n} e h = into_both ∙ rw (e, ne_eqb n 0 h)
 
   -- it is accepted, and so is the clearing
+  both_passes : (read_into t qs l out).number ≡ 0 → clear_query t qs l ≡ answered 0 t (idled_lane t qs l)
+  unfolding read_into after
+  both_passes =
+      read_cases t qs l (length out)
+      (λ r. (written (after t (handed_of qs 0 []) r) out).number ≡ 0 → clear_query t qs l ≡ answered 0 t (idled_lane t qs l))
+      (λ e. cc) (λ e. cc) (λ e. cc) (λ e. cc) (λ e. cc) (λ R e. both_done R)
+
+  pub both_ok : {k f : ℕ} {out' : List ℕ} → read_into t qs l out ≡ filling_of 0 t qs k f out'
+      → (a : Answer (List Query) Refusal) → after t qs (clear_query t qs l) ≡ told_call qs a t → IsOk a
+  unfolding after
+  both_ok e (Ok qs') h = refl
+  both_ok {k} {f} {out'} e (Err r) h =
+      let n : (read_into t qs l out).number ≡ 0 = ap (λ (g : Filling). g.number) e in
+      let p = rw (both_passes n) at h in
+      absurd ((no_step r).0 (sym (ap (λ (a : After (List Query)). a.number) p)))
+
+  -- then number, steps and list are those of the reading, and the lanes are those that the clearing leaves
   pub both_accepted : {n k f m : ℕ} {out' : List ℕ} {qs' : List Query} → read_into t qs l out ≡ filling_of n t qs k f out' → n ≡ 0
       → after t qs (clear_query t qs l) ≡ after_of m t qs' → collect_into t qs l out ≡ filling_of n t qs' k f out'
   unfolding pick

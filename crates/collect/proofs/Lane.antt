@@ -1,6 +1,6 @@
 -- READING AND CLEARING AMONG ALL LANES ARE THOSE OF ONE: `read_into` is `read_one_into` with the lanes beside it, `clear_query` is `clear_one` in the lane that it
 -- names, put among the others.
-use mathlib.Core.Path.{◌≡◌, refl}
+use mathlib.Core.Path.{◌≡◌, refl, sym, ◌∙◌}
 use mathlib.Core.Bool.{Bool, true, false}
 use mathlib.Core.List.{List, []}
 use Prim.Native.Nat.{ℕ, ◌≤◌}
@@ -27,6 +27,11 @@ module _ (t : Tables) (qs : List Query) (l : ℕ) where
   clear_in =
       lanes.past idle_query t qs l _ 12 _ _ (lanes.past idle_query t qs l _ 1 _ _ (lanes.past idle_query t qs l _ 3 _ _
       (lanes.past idle_query t qs l _ 10 _ _ refl)))
+
+  -- one that is refused leaves every lane as it is
+  pub clear_refuses : (n : ℕ) → after t lane (clear_one t l lane) ≡ after_of n t lane
+      → after t qs (clear_query t qs l) ≡ after_of n t qs
+  clear_refuses n e = clear_in ∙ rw e (sym (lanes.stays idle_query t qs l n))
 
   -- a lane that is none
   pub clear_none : 4 ≤ l → (n : ℕ) → n ≡ pick (right_lengths t) 1 12 → after t qs (clear_query t qs l) ≡ after_of n t qs

@@ -5,9 +5,8 @@ ghost use Rattle.collect.specs.Collect.{idled};
 ghost use Rattle.collect.specs.Promise.{Clears, ClearsOne};
 ghost use Rattle.tables.specs.Promise.{OnGrid};
 
-use base::{CORRUPT, DONE, LANE_IDLE, NO_SUCH_LANE, QUERY_COUNT, QUERY_UNFINISHED};
-use calls::no_lane;
-use queries::lanes::{Swept, SweptOne, is_finished, is_idle};
+use base::QUERY_COUNT;
+use calls::refusal::{Refusal, no_lane};
 use query::{Query, Scan};
 use tables::lengths::right_words;
 
@@ -21,57 +20,42 @@ fn idle(q: Query) -> Query
     }
 }
 
-// Idles the finished query of a lane, given by value. Gives 0, or is refused with 12 (lengths), 1, 3 or 10, which leaves
-// the query as it is.
-#[tactic(auto, using(calls::proofs::Sized::sized), unfolding(crate::specs::One::clear_one, calls::specs::Call::unless, calls::specs::Call::after))]
-pub fn clear_one(q: Query, lane: u32, words: &[u32], times: &[i32]) -> SweptOne
+// Idles the finished query of a lane, given by value. Refused with 12 (lengths), 1, 3 or 10, which leaves the query as it
+// is.
+#[tactic(auto, using(calls::proofs::Sized::sized, crate::proofs::Stages::stage_tests), unfolding(crate::specs::One::clear_one, calls::specs::Call::unless, calls::specs::Call::after))]
+pub fn clear_one(q: Query, lane: u32, words: &[u32], times: &[i32]) -> Result<Query, Refusal>
     ensures { OnGrid (seen words) (seen times) (ClearsOne q lane result) }
 {
     if !right_words(words.len(), times.len()) {
-        return SweptOne {
-            number: CORRUPT,
-            query: q,
-        };
+        return Err(Refusal::Corrupt);
     }
     if lane >= QUERY_COUNT {
-        return SweptOne {
-            number: NO_SUCH_LANE,
-            query: q,
-        };
+        return Err(Refusal::NoSuchLane);
     }
-    if is_idle(q.stage) {
-        return SweptOne {
-            number: LANE_IDLE,
-            query: q,
-        };
-    }
-    if !is_finished(q.stage) {
-        return SweptOne {
-            number: QUERY_UNFINISHED,
-            query: q,
-        };
-    }
-    SweptOne {
-        number: DONE,
-        query: idle(q),
+    match q.stage {
+        Scan::Idle => Err(Refusal::LaneIdle),
+        Scan::Finished => Ok(idle(q)),
+        _ => Err(Refusal::QueryUnfinished),
     }
 }
 
 // Idles one of the lanes: what `clear_one` does there.
+// Written out for each call: the five are lent words and stamps in three ways (to read, one to write, both to write), so
+// that no one type of closure fits them, and a closure with its contract is longer than these lines.
 #[tactic(auto, using(crate::proofs::Lane::clear_in, crate::proofs::Lane::clear_none, tables::proofs::Grid::grid_lengths))]
-pub fn clear(queries: [Query; 4], lane: u32, words: &[u32], times: &[i32]) -> Swept
+pub fn clear(
+    queries: [Query; 4],
+    lane: u32,
+    words: &[u32],
+    times: &[i32],
+) -> Result<[Query; 4], Refusal>
     ensures { OnGrid (seen words) (seen times) (Clears queries lane result) }
 {
     if lane >= QUERY_COUNT {
-        let number = no_lane(words.len(), times.len());
-        return Swept { number, queries };
+        return Err(no_lane(words.len(), times.len()));
     }
     let at = lane as usize;
-    let one = clear_one(queries[at], lane, words, times);
     let mut next = queries;
-    next[at] = one.query;
-    Swept {
-        number: one.number,
-        queries: next,
-    }
+    next[at] = clear_one(queries[at], lane, words, times)?;
+    Ok(next)
 }

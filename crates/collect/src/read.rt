@@ -8,45 +8,40 @@ ghost use Rattle.collect.specs.Promise.{Reads, ReadsOne};
 
 use crate::admission::admit;
 use crate::entries::write_entries;
-use base::{DONE, LIST_SIZE, QUERY_COUNT};
-use calls::no_lane;
+use base::{LIST_SIZE, QUERY_COUNT};
+use calls::refusal::{Refusal, call_number, no_lane};
 use query::Query;
 use tables::lengths::right_words;
 use words::{CLOCK, HITS};
 
-// The number that a reading gives (document 01), the steps of the query, and how many numbers of the lent list are
-// filled.
-#[derive(Clone, Copy)]
+// What an accepted reading gives: the steps of the query, and how many numbers of the lent list are filled.
+#[derive(Clone, Copy, Debug, Default, PartialEq, Eq)]
 pub struct Reading {
-    pub number: u32,
     pub steps: u32,
     pub filled: usize,
 }
 
 // Hands back the list of the finished query in a lane, given by value: four numbers for each entry, over the front of
-// the caller's list. No table changes, and the query stays as it is. Gives 0, or is refused with 12 (lengths), 1, 3, 10,
-// 11 or 12 (the number of hits), which leaves the list as it is. The filled part is `out[..filled]`.
+// the caller's list. No table changes, and the query stays as it is. Refused with 12 (lengths), 1, 3, 10, 11 or 12 (the
+// number of hits), which leaves the list as it is. The filled part is `out[..filled]`.
 #[tactic(auto, using(calls::proofs::Sized::as_long), unfolding(crate::specs::Admission::admitted_one, crate::specs::Admission::ask))]
-pub fn read_one(q: Query, lane: u32, out: &mut [u32], words: &[u32], times: &[i32]) -> Reading
+pub fn read_one(
+    q: Query,
+    lane: u32,
+    out: &mut [u32],
+    words: &[u32],
+    times: &[i32],
+) -> Result<Reading, Refusal>
     ensures { OnGrid (seen words) (seen times) (ReadsOne q lane (lent out) result) }
 {
     let right = right_words(words.len(), times.len());
-    match admit(right, q, lane, out.len()) {
-        Err(number) => Reading {
-            number,
-            steps: 0,
-            filled: 0,
-        },
-        Ok(found) => {
-            let size = found.hits as usize;
-            write_entries(&words[HITS..CLOCK], LIST_SIZE * lane as usize, size, out);
-            Reading {
-                number: DONE,
-                steps: found.steps,
-                filled: 4 * size,
-            }
-        }
-    }
+    let found = admit(right, q, lane, out.len())?;
+    let size = found.hits as usize;
+    write_entries(&words[HITS..CLOCK], LIST_SIZE * lane as usize, size, out);
+    Ok(Reading {
+        steps: found.steps,
+        filled: 4 * size,
+    })
 }
 
 // Hands back the list of the finished query in one of the lanes: what `read_one` does there. No lane changes.
@@ -57,15 +52,11 @@ pub fn read_into(
     out: &mut [u32],
     words: &[u32],
     times: &[i32],
-) -> Reading
+) -> Result<Reading, Refusal>
     ensures { OnGrid (seen words) (seen times) (Reads queries lane (lent out) result) }
 {
     if lane >= QUERY_COUNT {
-        return Reading {
-            number: no_lane(words.len(), times.len()),
-            steps: 0,
-            filled: 0,
-        };
+        return Err(no_lane(words.len(), times.len()));
     }
     read_one(queries[lane as usize], lane, out, words, times)
 }
@@ -85,8 +76,9 @@ pub fn read<'a>(
 ) -> &'a mut [u32]
     ensures { read_part (grid words.now times.now) queries lane out.old ≡ parted_of number.new steps.new result.now }
 {
-    let reading = read_into(queries, lane, out, words, times);
-    *number = reading.number;
+    let answer = read_into(queries, lane, out, words, times);
+    *number = call_number(&answer);
+    let reading = answer.unwrap_or_default();
     *steps = reading.steps;
     &mut out[..reading.filled]
 }

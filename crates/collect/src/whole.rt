@@ -5,16 +5,13 @@ ghost use Rattle.tables.specs.Promise.{OnGrid};
 
 use crate::clear::clear;
 use crate::read::{Reading, read_into};
-use base::DONE;
+use calls::refusal::Refusal;
 use query::Query;
 
-// The number that a collection gives (document 01), the steps of the query, how many numbers of the lent list are filled,
-// and the queries afterwards.
-#[derive(Clone, Copy)]
+// What an accepted collection gives: what the reading gave, and the queries afterwards.
+#[derive(Clone, Copy, Debug, PartialEq, Eq)]
 pub struct Collected {
-    pub number: u32,
-    pub steps: u32,
-    pub filled: usize,
+    pub reading: Reading,
     pub queries: [Query; 4],
 }
 
@@ -26,23 +23,11 @@ pub fn collect(
     out: &mut [u32],
     words: &[u32],
     times: &[i32],
-) -> Collected
+) -> Result<Collected, Refusal>
     ensures { OnGrid (seen words) (seen times) (Collects queries lane (lent out) result) }
 {
-    let Reading {
-        number,
-        steps,
-        filled,
-    } = read_into(queries, lane, out, words, times);
-    let queries = if number == DONE {
-        clear(queries, lane, words, times).queries
-    } else {
-        queries
-    };
-    Collected {
-        number,
-        steps,
-        filled,
-        queries,
-    }
+    let reading = read_into(queries, lane, out, words, times)?;
+    // The query is finished, so the clearing is not refused.
+    let queries = clear(queries, lane, words, times).unwrap();
+    Ok(Collected { reading, queries })
 }

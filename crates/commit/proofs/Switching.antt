@@ -30,6 +30,7 @@ use Rattle.tables.specs.Grid.{grid}
 use Rattle.tables.proofs.Grid.{put_index_lem}
 use Rattle.base.proofs.Turns.{halts, moves}
 use Rattle.stage.specs.Turn.{at_entry}
+use Rattle.stage.specs.declared.Stage.TheVariants.{DeleteOld, ReleaseObject}
 use Rattle.commit.specs.Commit.{switching_of, after_switching, stage12}
 use Rattle.commit.specs.On.{put_places, freed, switching_in, put_switching, stage12_on, ShiftsAt}
 
@@ -124,3 +125,10 @@ module _ (t : Tables) (p : Place) (k : ℕ) where
       switch_made {old} q h t' z =
           let d = gave_done (λ (a : Shifted). a.old) (put_places t) t u (shift_in t.index i p) e q in
           went old d.0 d.1 d.2 h u d.3 t' z
+
+      -- by the old place
+      pub switch_nowhere : r ≡ Ok None → p.cell < 256 → (t' : Tables) → t' ≡ freed u p.cell → turned t (stage12_on t p k) ≡ (said 0 (Some ReleaseObject), t')
+      switch_nowhere q h t' z = switch_made q h t' z
+
+      pub switch_at : (o : Place) → r ≡ Ok (Some o) → p.cell < 256 → (t' : Tables) → t' ≡ freed u p.cell → turned t (stage12_on t p k) ≡ (said 0 (Some (DeleteOld o)), t')
+      switch_at o q h t' z = switch_made q h t' z

@@ -1,5 +1,5 @@
 // Stages 11 to 13 of an update (document 01: the stages of a report): the new tuple counts, the object index names it, the old tuple is deleted.
-// On the words that hold all tables; their number is the caller's to check.
+// On the words that hold all tables.
 #![tactic(auto)]
 
 ghost use Rattle.base.specs.Lent.{lent};

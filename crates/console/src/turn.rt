@@ -1,59 +1,34 @@
 // ONE LINE of a script: done on the grid, and its answer printed.
-ghost use Rattle.std.specs.Prelude.{◌+◌, ◌≤◌, ◌≡◌, length};
+ghost use Rattle.std.specs.Prelude.{◌≡◌, ◌+◌, ◌≤◌, length};
+ghost use Rattle.arrayvec.specs.ArrayVec.{array_vec_len};
 ghost use Rattle.base.specs.Lent.{seen, lent};
 ghost use Rattle.tables.specs.Promise.{OnGrid};
 ghost use Rattle.console.specs.Promise.{Prints};
 
 use crate::printing::print_step;
+use answers::rows::print_answer;
+use arrayvec::ArrayVec;
 use lines::step::line_step;
-use query::Query;
-use stage::Updater;
+use rest::Lanes;
 
-// The number of a line, and the place in the buffer where its answer belongs: behind what waits there.
-#[derive(Clone, Copy)]
-pub struct Due {
-    pub number: u64,
-    pub waiting: usize,
-}
-
-// The place behind the answer, and the lanes afterwards.
-#[derive(Clone, Copy)]
-pub struct Answered {
-    pub waiting: usize,
-    pub updaters: [Updater; 8],
-    pub queries: [Query; 4],
-}
-
-// Does what a line says, and puts its answer behind what waits in the buffer.
-pub fn answer_line(
+// Does what a line says, and prints its answer, with the line's number. A refused line leaves the lanes as they are.
+pub fn answer_line<const N: usize>(
     line: &[u8],
-    due: Due,
-    out: &mut [u8],
+    number: u64,
+    out: &mut ArrayVec<u8, N>,
     list: &mut [u32],
-    updaters: [Updater; 8],
-    queries: [Query; 4],
+    lanes: &mut Lanes,
     words: &mut [u32],
     times: &mut [i32],
-) -> Answered
-    requires { (due.waiting + 11328 ≤ length out.old) × (length list.old ≡ 1024) }
-    ensures { OnGrid (lent words) (lent times) (Prints (seen line) due (lent out) (lent list) updaters queries result) }
+)
+    requires { (array_vec_len out.old + 11328 ≤ N) × (length list.old ≡ 1024) }
+    ensures { OnGrid (lent words) (lent times) (Prints (seen line) number out.old out.new (lent list) (lent lanes)) }
 {
-    let done = line_step(line, list, updaters, queries, words, times);
-    let place = print_step(
-        line,
-        due.number,
-        done.number,
-        done.steps,
-        list,
-        done.filled,
-        out,
-        due.waiting,
-    );
-    let updaters = done.updaters;
-    let queries = done.queries;
-    Answered {
-        waiting: place,
-        updaters,
-        queries,
+    match line_step(line, list, *lanes, words, times) {
+        Ok(step) => {
+            *lanes = step.lanes;
+            print_step(out, number, step.answer, list);
+        }
+        Err(refusal) => print_answer(out, number, u32::from(refusal)),
     }
 }

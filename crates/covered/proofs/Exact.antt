@@ -2,7 +2,7 @@
 -- A point of a cell lies no farther outside the rectangle than one of the cell's edges, in x and in y separately.
 -- So the corner that lies farthest decides for touching, and the two edges of each coordinate for within and centre.
 use mathlib.Core.Path.{◌≡◌, sym, ◌∙◌}
-use mathlib.Core.Bool.{true, and-eq-true_iff}
+use mathlib.Core.Bool.{true, false, ◌&&◌, and-eq-true_iff}
 use mathlib.Core.Logic.{◌↔◌}
 use Prim.Native.Nat.{ℕ, ◌+◌, ◌-◌, ◌≤◌, ◌<◌}
 use native.Mathlib.Omega.{arith}
@@ -141,3 +141,33 @@ zero-whole a h c =
           (whole_iff (touching_zero a) c t c<).1 (λ x y l. zero-inside a h x y ∙ (whole_iff (centre a) c q c<).0 e x y l)),
     )
     (λ h. h, λ h. h)
+
+-- ---- the test by its parts, and by kind
+
+module _ (a : Rectangle) (r c : ℕ) where
+  pub deep_no : (leb (a.x0 + r) (left c) && leb (right c + r) a.x1) ≡ false → deep a r c ≡ false
+  unfolding deep
+  deep_no h = rw h
+
+  pub deep_yes : (leb (a.x0 + r) (left c) && leb (right c + r) a.x1) ≡ true
+      → deep a r c ≡ (leb (a.y0 + r) (bottom c) && leb (top c + r) a.y1)
+  unfolding deep
+  deep_yes h = rw h
+
+module _ (g : Region) (c : ℕ) where
+  -- no cell
+  pub whole_none : ltb c 256 ≡ false → whole g c ≡ false
+  unfolding whole
+  whole_none h = rw h
+
+  pub whole_reached : ltb c 256 ≡ true → g.kind ≡ Touching → whole g c ≡ reached g.area g.radius c
+  unfolding whole whole_by
+  whole_reached h e = rw (h, e)
+
+  pub whole_deep : ltb c 256 ≡ true → g.kind ≡ Within → whole g c ≡ deep g.area g.radius c
+  unfolding whole whole_by
+  whole_deep h e = rw (h, e)
+
+  pub whole_centre : ltb c 256 ≡ true → g.kind ≡ Centre → whole g c ≡ deep g.area 0 c
+  unfolding whole whole_by
+  whole_centre h e = rw (h, e)

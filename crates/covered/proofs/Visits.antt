@@ -1,7 +1,7 @@
 -- The cells that `next_visit` and `first_visit` name are those of the walk, and what they say of them is exact.
 -- By cases on what `next` came to; the rest is `whole_iff`.
 use mathlib.Core.Path.{◌≡◌, refl}
-use mathlib.Core.Bool.{true}
+use mathlib.Core.Bool.{Bool, true}
 use mathlib.Core.List.Memᴰ
 use mathlib.Core.Logic.{◌↔◌}
 use Rattle.std.specs.Prelude.{Option, None, Some}
@@ -12,12 +12,17 @@ use Rattle.layout.specs.declared.question.Visit.{Visit as Cell}
 use Rattle.regions.specs.Region as region
 use Rattle.regions.specs.declared.region.Region.{Region}
 use Rattle.regions.proofs.Walk.{first_of_walk, next_visited, visited_below, visited_walk, walk_below}
-use Rattle.covered.specs.Whole.{Wholly}
+use Rattle.covered.specs.Whole.{Wholly, whole}
 use Rattle.covered.specs.Visit.{visit, first_visit, marked, next_visit}
 use Rattle.covered.specs.declared.visit.Visit.{Visit}
 use Rattle.covered.proofs.Exact.{whole_iff}
 
 -- ---- what `next_visit` comes to, by what `next` does
+
+-- the first cell, tested
+pub visit_first : (g : Region) (v : Cell) (b : Bool) → v ≡ region.first_visit g → b ≡ whole g v.cell
+    → record { cell = v.cell; whole = b } ≡ first_visit g
+visit_first g v b e f = rw (f, e)
 
 module _ (g : Region) (c : ℕ) where
   pub visit_broken : region.next g c ≡ corrupt → next_visit g c ≡ corrupt

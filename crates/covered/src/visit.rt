@@ -8,6 +8,8 @@ use base::Corrupt;
 use regions::region::Region;
 use regions::scan::{first_cell, next_cell};
 
+// A cell and an answer about it. The flag says nothing of whether there is a cell, so an Option has no place here, and a
+// case for each answer would be taken apart by everyone who only walks.
 #[derive(Clone, Copy, Debug, PartialEq, Eq)]
 pub struct Visit {
     pub cell: u32,

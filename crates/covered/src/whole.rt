@@ -16,6 +16,7 @@ fn farthest(low: u32, high: u32, first: u32) -> u32
         .max((first + 1023).saturating_sub(high))
 }
 
+// That the cell is one of the grid stays a requires here and in the next: their one caller has just tested it.
 // Whether the corner of a cell that lies farthest from the rectangle is at most the radius away.
 fn is_reached(a: Rectangle, radius: u32, cell: u32) -> bool
     requires { cell < 256 }

@@ -21,6 +21,14 @@ use Rattle.erase.proofs.Entries.{Sized}
 abbrev freed : Tables → ℕ → Tables
 freed t c = with_cells t (set t.cells c 0)
 
+-- what stays in range of the words after two stores, and after three
+module _ (w : List ℕ) (w# : length w ≡ WORDS) (a x b y n : ℕ) (h : n < WORDS) where
+  pub after_two : n < length (set (set w a x) b y)
+  after_two = omega (arith, length-set w a x, length-set (set w a x) b y)
+
+  pub after_three : (c z : ℕ) → n < length (set (set (set w a x) b y) c z)
+  after_three c z = omega (arith, length-set w a x, length-set (set w a x) b y, length-set (set (set w a x) b y) c z)
+
 module _ (w : List ℕ) (ts : List ℤ) (w# : length w ≡ WORDS) where
   -- the sign is looked up at the stamps
   pub signed_in : (b s : ℕ) {o : Outcome Bool} → sign ts b s ≡ o → sign (grid w ts).tuples.time b s ≡ o

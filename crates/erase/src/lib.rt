@@ -1,5 +1,6 @@
 // Stages 4 to 7 of an update: a tuple is erased by moving the cell's last one over it.
-// On the words that hold all tables, and the stamps; their numbers are the caller's to check.
+// On the words that hold all tables, and the stamps.
+// A place and the object that moves there stay two parameters: a stage carries them side by side, as document 01 has them.
 #![tactic(auto)]
 
 ghost use Rattle.std.specs.Prelude.{◌<◌};

@@ -2,12 +2,12 @@
 // answer.
 #![tactic(auto)]
 
-use console::run::run_script;
+use console::run::{Reads, run_script};
 
 // A failure is told on standard error; the exit status is 0 all the same.
 fn main(rt: HostRuntime) {
     let run = run_script(&mut rt.stdin(), &mut rt.stdout());
-    if run.reads.is_err() {
+    if let Reads::Failed(_) = run.reads {
         let _ = rt.eprintln("grid_script: reading failed");
     }
     if run.writes.is_err() {

@@ -1,23 +1,35 @@
--- WHAT THE EXPORTS PROMISE, of the tables t as a call finds them and t' as it leaves them, of the lanes' numbers and of what is handed back: all are those
--- of the definition, for every content of the tables, the lanes and the list.
-use Rattle.std.specs.Prelude.{◌≡◌, Bool, true, false, ◌&&◌, Result, MatchResult, List, ℕ, ◌*◌, ◌<◌, ltb}
-use Rattle.base.specs.Numbers.{NO-SUCH-LANE, CORRUPT}
-use Rattle.base.specs.Outcome.{pick}
+-- WHAT THE EXPORTS PROMISE, of the tables t as a call finds them and t' as it leaves them, of the lanes' numbers and of
+-- what is handed back: all are those of the definition, for every content of the tables, the lanes and the list.
+use Rattle.std.specs.Prelude.{◌≡◌, Result, MatchResult, Bool, true, false, List, ℕ, ◌<◌, ◌≤◌, length, slice_index_or}
+use Rattle.std.specs.Borrow.{Bor}
 use Rattle.base.specs.Lent.{Lent}
 use Rattle.layout.specs.declared.question.Question.{Question as Rectangle}
 use Rattle.tables.specs.Tables.{Tables}
 use Rattle.calls.specs.Call.{after, after_of}
 use Rattle.calls.specs.Run.{ran_of}
+use Rattle.calls.specs.declared.refusal.Refusal.{Refusal}
+use Rattle.calls.specs.declared.refusal.Refusal.TheVariants.{NoSuchLane, Corrupt}
 use Rattle.collect.specs.One.{filling_one_of}
-use Rattle.gurtheddu.specs.Coded.{start_update, run_update, start_sweep, run_sweep, read_from, clear_lane, reset_deck, lanes_of, rewind_deck}
+use Rattle.collect.specs.Promise.{told_reading_one}
+use Rattle.collect.specs.declared.read.Reading.{Reading}
+use Rattle.gurtheddu.specs.Coded.{start_update, run_update, start_sweep, run_sweep, read_from, clear_lane, reset_deck}
+use Rattle.gurtheddu.specs.Coded.{lanes_of, rewind_deck}
 
--- LANE l CANNOT BE TOLD, one of k lanes: there is no such lane, and m is 1, or its numbers name nothing, and m is 12.
-abbrev pub Lost : ℕ → ℕ → Bool → ℕ → Type 0
-Lost k l named m = ((ltb l k && named) ≡ false) × (m ≡ pick (ltb l k) CORRUPT NO-SUCH-LANE)
+-- LANE l IS FOUND among the lanes ls: it is x, which names something.
+pub record FoundLane {L : Type 0} (names : L → Bool → Type 0) (ls : List L) (l : ℕ) (x : L) : Type 0 where
+  pub lane : l < length ls
+  pub is : slice_index_or ls l x ≡ x
+  pub named : names x true
 
--- A SEARCH for lane l, one of k lanes of n numbers each, gives where its numbers begin.
-abbrev pub FindsLane : ℕ → ℕ → ℕ → Bool → Result ℕ ℕ → Type 0
-FindsLane k n l named r = MatchResult r (λ at. (at ≡ n * l) × (l < k) × (named ≡ true)) (Lost k l named)
+-- LANE l IS NOT FOUND among them: there is no such lane, and the number is 1, or it names nothing, and the number is
+-- 12.
+pub data LostLane {L : Type 0} (names : L → Bool → Type 0) (ls : List L) (l : ℕ) : Refusal → Type 0 where
+  laneless : length ls ≤ l → LostLane names ls l NoSuchLane
+  nameless : (x : L) → l < length ls → slice_index_or ls l x ≡ x → names x false → LostLane names ls l Corrupt
+
+-- A SEARCH for lane l among the lanes ls, with the test whether a lane names something.
+abbrev pub FindsLane : {L : Type 0} → (L → Bool → Type 0) → List L → ℕ → Result (Bor L) Refusal → Type 0
+FindsLane names ls l r = MatchResult r (λ x. FoundLane names ls l x.now) (LostLane names ls l)
 
 -- A START of an update of object k, to stand at (x, y) with tag m, in lane l, gives n.
 abbrev pub StartsUpdate : Lent (List ℕ) → ℕ → ℕ → ℕ → ℕ → ℕ → ℕ → Tables → Tables → Type 0
@@ -38,6 +50,10 @@ RunsSweep ns l b made n t t' = run_sweep b l t ns.old ≡ ran_of n made.new t' n
 -- A READING from lane l into a list that is lent gives n.
 abbrev pub ReadsFrom : Lent (List ℕ) → ℕ → Lent (List ℕ) → Lent ℕ → Lent ℕ → ℕ → Tables → Tables → Type 0
 ReadsFrom ns l out steps filled n t t' = read_from t ns.old l out.old ≡ filling_one_of n t' steps.new filled.new out.new
+
+-- The same as its Result tells it.
+abbrev pub ReadsLane : Lent (List ℕ) → ℕ → Lent (List ℕ) → Result Reading Refusal → Tables → Tables → Type 0
+ReadsLane ns l out r t t' = read_from t ns.old l out.old ≡ told_reading_one r t' out.new
 
 -- A CLEARING of lane l gives n.
 abbrev pub ClearsLane : Lent (List ℕ) → ℕ → ℕ → Tables → Tables → Type 0

@@ -1,32 +1,103 @@
-// The calls of range queries (document 01: sweep start, sweep steps in a row; document 02, request b: reading the list, clearing the lane).
+// The calls of range queries (document 01: sweep start, sweep steps in a row; document 02, request b: reading the list,
+// clearing the lane).
 ghost use Rattle.tables.specs.Promise.{OnGrid};
 ghost use Rattle.base.specs.Lent.{seen, lent};
-ghost use Rattle.codes.specs.Queries.{QUERY-NUMBERS, rectangle_of, names_query};
-ghost use Rattle.gurtheddu.specs.Promise.{FindsLane, StartsSweep, RunsSweep, ReadsFrom, ClearsLane};
+ghost use Rattle.calls.specs.Refusals.{call_number, end_number};
+ghost use Rattle.codes.specs.Queries.{rectangle_of};
+ghost use Rattle.gurtheddu.specs.Promise.{StartsSweep, RunsSweep, ReadsLane, ReadsFrom, ClearsLane};
 
-use base::{CORRUPT, DONE, NO_SUCH_LANE, QUERY_COUNT};
+use crate::lane::{find_lane, store_lane};
+use calls::pace::{Pace, end_number};
+use calls::refusal::{Refusal, call_number};
 use codes::query_lane::{
-    LAST_KIND, QUERY_NUMBERS, SCAN_AT, kind_of, load_query, names_query, seen_query, store_query,
+    LAST_KIND, SCAN_AT, code_query, decode_query, kind_of, names_query, seen_query,
 };
 use collect::clear::clear_one;
-use collect::read::read_one;
+use collect::read::{Reading, read_one};
 use layout::question::Question as Rectangle;
 use queries::start::start_one;
 use query_run::run_query;
 use regions::region::Region;
 
-// Where the numbers of a lane begin. Refused with 1, or with 12, where they name nothing.
-fn find_lane(queries: &[u32; 52], lane: u32) -> Result<usize, u32>
-    ensures { FindsLane 4 QUERY-NUMBERS lane (names_query queries.now lane) result }
+// Starts a query of the question of that kind about a rectangle, with that radius.
+fn start_lane(
+    queries: &mut [u32; 52],
+    lane: u32,
+    kind: u32,
+    area: Rectangle,
+    radius: u32,
+    words: &mut [u32; 16898],
+    times: &[i32; 2048],
+) -> Result<(), Refusal>
+    ensures { OnGrid (lent words) (seen times) (StartsSweep (lent queries) lane kind area radius (call_number result)) }
 {
-    if lane >= QUERY_COUNT {
-        return Err(NO_SUCH_LANE);
+    let numbers = find_lane(queries.as_chunks().0, lane, names_query)?;
+    if kind > LAST_KIND {
+        return Err(Refusal::Corrupt);
     }
-    let at = QUERY_NUMBERS * lane as usize;
-    if !names_query(queries, at) {
-        return Err(CORRUPT);
+    let question = Region {
+        kind: kind_of(kind),
+        area,
+        radius,
+    };
+    let q = seen_query(numbers[SCAN_AT]);
+    let started = start_one(q, lane, question, words, times)?;
+    store_lane(queries, lane, code_query(started));
+    Ok(())
+}
+
+// So many steps of a query, ended by the first that does not move on; and how many steps were carried out.
+// There is one for each kind of lane: they are lent the stamps to write and to read, as the runs that they call.
+fn run_lane(
+    queries: &mut [u32; 52],
+    lane: u32,
+    budget: u32,
+    made: &mut u32,
+    words: &mut [u32; 16898],
+    times: &[i32; 2048],
+) -> Result<Pace, Refusal>
+    ensures { OnGrid (lent words) (seen times) (RunsSweep (lent queries) lane budget (lent made) (end_number result)) }
+{
+    *made = 0;
+    if budget == 0 {
+        return Ok(Pace::Moved);
     }
-    Ok(at)
+    let numbers = find_lane(queries.as_chunks().0, lane, names_query)?;
+    let ran = run_query(decode_query(numbers), lane, words, times, budget);
+    *made = ran.made;
+    if ran.made > 0 {
+        store_lane(queries, lane, code_query(ran.lanes));
+    }
+    ran.end
+}
+
+// Hands back the list of a finished query: four numbers for each entry over the front of the caller's list.
+fn read_lane(
+    queries: &[u32; 52],
+    lane: u32,
+    out: &mut [u32],
+    words: &[u32; 16898],
+    times: &[i32; 2048],
+) -> Result<Reading, Refusal>
+    ensures { OnGrid (seen words) (seen times) (ReadsLane (seen queries) lane (lent out) result) }
+{
+    let numbers = find_lane(queries.as_chunks().0, lane, names_query)?;
+    read_one(decode_query(numbers), lane, out, words, times)
+}
+
+// Idles the lane of a finished query.
+fn clear_lane(
+    queries: &mut [u32; 52],
+    lane: u32,
+    words: &[u32; 16898],
+    times: &[i32; 2048],
+) -> Result<(), Refusal>
+    ensures { OnGrid (seen words) (seen times) (ClearsLane (lent queries) lane (call_number result)) }
+{
+    let numbers = find_lane(queries.as_chunks().0, lane, names_query)?;
+    let cleared = clear_one(decode_query(numbers), lane, words, times)?;
+    store_lane(queries, lane, code_query(cleared));
+    Ok(())
 }
 
 // Starts a query: its kind of question (0 touching, 1 within, 2 centre), the lower and the upper corner of its
@@ -46,28 +117,13 @@ pub fn gurtheddu_query_start(
 ) -> u32
     ensures { OnGrid (lent words) (seen times) (StartsSweep (lent queries) lane kind (rectangle_of x0 y0 x1 y1) radius result) }
 {
-    let at = match find_lane(queries, lane) {
-        Ok(at) => at,
-        Err(number) => return number,
-    };
-    if kind > LAST_KIND {
-        return CORRUPT;
-    }
-    let question = Region {
-        kind: kind_of(kind),
-        area: Rectangle { x0, y0, x1, y1 },
-        radius,
-    };
-    let q = seen_query(queries[at + SCAN_AT]);
-    let one = start_one(q, lane, question, words, times);
-    if one.number == DONE {
-        store_query(queries, at, one.query);
-    }
-    one.number
+    let area = Rectangle { x0, y0, x1, y1 };
+    call_number(&start_lane(queries, lane, kind, area, radius, words, times))
 }
 
-// So many steps of a query, ended by the first number that is not 0. Gives 0 if all of them did, else the first other number: 20 or 22, or is refused
-// with 1, 12 (the lane's numbers name nothing), 3, 9 or 12 (a stored number); and how many steps were carried out.
+// So many steps of a query, ended by the first number that is not 0. Gives 0 if all of them did, else the first other
+// number: 20 or 22, or is refused with 1, 12 (the lane's numbers name nothing), 3, 9 or 12 (a stored number); and how
+// many steps were carried out.
 pub fn gurtheddu_query_run(
     queries: &mut [u32; 52],
     lane: u32,
@@ -78,25 +134,12 @@ pub fn gurtheddu_query_run(
 ) -> u32
     ensures { OnGrid (lent words) (seen times) (RunsSweep (lent queries) lane budget (lent made) result) }
 {
-    *made = 0;
-    if budget == 0 {
-        return DONE;
-    }
-    let at = match find_lane(queries, lane) {
-        Ok(at) => at,
-        Err(number) => return number,
-    };
-    let q = load_query(queries, at);
-    let ran = run_query(q, lane, words, times, budget);
-    *made = ran.made;
-    if ran.made > 0 {
-        store_query(queries, at, ran.query);
-    }
-    ran.number
+    end_number(run_lane(queries, lane, budget, made, words, times))
 }
 
-// Hands back the list of a finished query: four numbers for each entry over the front of the caller's list, how many numbers these are, and the steps
-// of the query. Nothing else changes. Gives 0, or is refused with 1, 12 (the lane's numbers name nothing), 3, 10, 11 or 12 (the number of hits).
+// Hands back the list of a finished query: four numbers for each entry over the front of the caller's list, how many
+// numbers these are, and the steps of the query. Nothing else changes. Gives 0, or is refused with 1, 12 (the lane's
+// numbers name nothing), 3, 10, 11 or 12 (the number of hits).
 pub fn gurtheddu_read(
     queries: &[u32; 52],
     lane: u32,
@@ -108,17 +151,11 @@ pub fn gurtheddu_read(
 ) -> u32
     ensures { OnGrid (seen words) (seen times) (ReadsFrom (seen queries) lane (lent out) (lent steps) (lent filled) result) }
 {
-    *steps = 0;
-    *filled = 0;
-    let at = match find_lane(queries, lane) {
-        Ok(at) => at,
-        Err(number) => return number,
-    };
-    let q = load_query(queries, at);
-    let reading = read_one(q, lane, out, words, times);
+    let answer = read_lane(queries, lane, out, words, times);
+    let reading = answer.unwrap_or_default();
     *steps = reading.steps;
     *filled = reading.filled as u32;
-    reading.number
+    call_number(&answer)
 }
 
 // Idles the lane of a finished query. Gives 0, or is refused with 1, 12 (the lane's numbers name nothing), 3 or 10.
@@ -130,14 +167,5 @@ pub fn gurtheddu_clear(
 ) -> u32
     ensures { OnGrid (seen words) (seen times) (ClearsLane (lent queries) lane result) }
 {
-    let at = match find_lane(queries, lane) {
-        Ok(at) => at,
-        Err(number) => return number,
-    };
-    let q = load_query(queries, at);
-    let cleared = clear_one(q, lane, words, times);
-    if cleared.number == DONE {
-        store_query(queries, at, cleared.query);
-    }
-    cleared.number
+    call_number(&clear_lane(queries, lane, words, times))
 }

@@ -22,7 +22,8 @@ pub extern "C" fn gurtheddu_reset(
     whole_deck::gurtheddu_reset(updaters, queries, words, times)
 }
 
-// Winds every stamp and the clock back. Gives 0, or is refused with 12 (a lane's number is none) or 30 (not at rest). The lanes stay as they are.
+// Winds every stamp and the clock back. Gives 0, or is refused with 12 (a lane's number is none) or 30 (not at rest).
+// The lanes stay as they are.
 #[unsafe(no_mangle)]
 pub extern "C" fn gurtheddu_rewind(
     updaters: &[u32; 80],
@@ -35,7 +36,8 @@ pub extern "C" fn gurtheddu_rewind(
     whole_deck::gurtheddu_rewind(updaters, queries, words, times)
 }
 
-// Starts an update of an object's place and tag. Gives 0, or is refused with 1, 12 (no stage has the lane's number), 2, 4, 5, 31, 7 or 8.
+// Starts an update of an object's place and tag. Gives 0, or is refused with 1, 12 (no stage has the lane's number), 2,
+// 4, 5, 31, 7 or 8.
 #[unsafe(no_mangle)]
 pub extern "C" fn gurtheddu_update_start(
     updaters: &mut [u32; 80],
@@ -52,8 +54,9 @@ pub extern "C" fn gurtheddu_update_start(
     of_updates::gurtheddu_update_start(updaters, lane, oid, x, y, tag, words, times)
 }
 
-// So many steps of an update, ended by the first number that is not 0. Gives 0 if all of them did, else the first other number: 20, 21 or 22, or is
-// refused with 1, 12 (no stage has the lane's number), 3 or 12 (a stored number); and how many steps were carried out.
+// So many steps of an update, ended by the first number that is not 0. Gives 0 if all of them did, else the first other
+// number: 20, 21 or 22, or is refused with 1, 12 (no stage has the lane's number), 3 or 12 (a stored number); and how
+// many steps were carried out.
 #[unsafe(no_mangle)]
 pub extern "C" fn gurtheddu_update_run(
     updaters: &mut [u32; 80],
@@ -89,8 +92,9 @@ pub extern "C" fn gurtheddu_query_start(
     of_queries::gurtheddu_query_start(queries, lane, kind, x0, y0, x1, y1, radius, words, times)
 }
 
-// So many steps of a query, ended by the first number that is not 0. Gives 0 if all of them did, else the first other number: 20 or 22, or is refused
-// with 1, 12 (the lane's numbers name nothing), 3, 9 or 12 (a stored number); and how many steps were carried out.
+// So many steps of a query, ended by the first number that is not 0. Gives 0 if all of them did, else the first other
+// number: 20 or 22, or is refused with 1, 12 (the lane's numbers name nothing), 3, 9 or 12 (a stored number); and how
+// many steps were carried out.
 #[unsafe(no_mangle)]
 pub extern "C" fn gurtheddu_query_run(
     queries: &mut [u32; 52],
@@ -105,8 +109,9 @@ pub extern "C" fn gurtheddu_query_run(
     of_queries::gurtheddu_query_run(queries, lane, budget, made, words, times)
 }
 
-// Hands back the list of a finished query: four numbers for each entry over the front of the caller's list, how many numbers these are, and the steps
-// of the query. Nothing else changes. Gives 0, or is refused with 1, 12 (the lane's numbers name nothing), 3, 10, 11 or 12 (the number of hits).
+// Hands back the list of a finished query: four numbers for each entry over the front of the caller's list, how many
+// numbers these are, and the steps of the query. Nothing else changes. Gives 0, or is refused with 1, 12 (the lane's
+// numbers name nothing), 3, 10, 11 or 12 (the number of hits).
 #[unsafe(no_mangle)]
 pub extern "C" fn gurtheddu_read(
     queries: &[u32; 52],

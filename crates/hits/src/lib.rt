@@ -1,11 +1,17 @@
-// The results of range queries (document 01: the lists of the sweeps): object, x, y and tag of each hit, 256 entries for each of four queries.
-// One list of four columns, objects, x, y and tags, of 1,024 numbers each, those of query l from entry 256 × l on. Its length is the caller's to check.
+// The results of range queries (document 01: the lists of the sweeps): object, x, y and tag of each hit, 256 entries for
+// each of four queries.
+// One list of four columns, objects, x, y and tags, of 1,024 numbers each, those of query l from entry 256 × l on. Its
+// length is the caller's to check.
+// A slice: as an array, each caller would have to unwrap a part of the words, with a proof of its length.
 #![tactic(auto)]
 
 ghost use Rattle.std.specs.Prelude.{◌≡◌, ◌<◌, ◌≤◌, ◌+◌, length};
 ghost use Rattle.hits.specs.Hits.{hits_at, put_hit, look_from, Finds, note, Notes};
 ghost use Rattle.words.specs.Map.{HITS-SIZE};
 
+pub mod lane;
+
+use crate::lane::QueryLane;
 use base::{Corrupt, LIST_SIZE};
 use slots::tuple::Seen;
 use words::{HIT_TAGS, HIT_XS, HIT_YS};
@@ -18,27 +24,29 @@ pub struct Lookup {
 }
 
 // Looks an object up in size entries from one on. It ends at the first that matches.
-// Document 01 asks for a loop that yields the entry's index by break.
+// Document 01 asks for a loop that yields the entry's index by break. It counts what is left, which
+// takes fewer instructions an entry than counting up to a limit.
 pub fn find_hit(hits: &[u32], from: usize, size: usize, oid: u32) -> Lookup
     requires { (length hits.now ≡ 1024) × (from + size ≤ 1024) }
     ensures { Finds (look_from hits.now oid size from) size from result }
 {
-    let mut passed: usize = 0;
-    let at = loop {
-        if passed >= size {
+    let end = from + size;
+    let mut left = size;
+    let found = loop {
+        if left == 0 {
             return Lookup {
                 listed: None,
-                looked: passed,
+                looked: size,
             };
         }
-        if hits[from + passed] == oid {
-            break from + passed;
+        if hits[end - left] == oid {
+            break end - left;
         }
-        passed += 1;
+        left -= 1;
     };
     Lookup {
-        listed: Some(at),
-        looked: passed + 1,
+        listed: Some(found),
+        looked: found - from + 1,
     }
 }
 
@@ -55,15 +63,15 @@ fn put_hit(list: &mut [u32], at: usize, t: Seen)
 
 // Notes a tuple in a query's list: a current one is added or replaces its object's entry, a deleted one is added if its object is not listed.
 // Hands back the size of the list afterwards.
-pub fn note_tuple(list: &mut [u32], lane: u32, size: u32, t: Seen) -> Result<u32, Corrupt>
-    requires { (length list.old ≡ HITS-SIZE) × (lane < 4) }
-    ensures { Notes (λ h. note h lane size t) result (hits_at list.old) (hits_at list.new) }
+pub fn note_tuple(list: &mut [u32], lane: QueryLane, size: u32, t: Seen) -> Result<u32, Corrupt>
+    requires { length list.old ≡ HITS-SIZE }
+    ensures { Notes (λ h. note h lane.number size t) result (hits_at list.old) (hits_at list.new) }
 {
     let entries = size as usize;
     if entries > LIST_SIZE {
         return Err(Corrupt);
     }
-    let from = LIST_SIZE * lane as usize;
+    let from = LIST_SIZE * lane.number as usize;
     let found = find_hit(&list[0..HIT_XS], from, entries, t.oid);
     let Some(i) = found.listed else {
         if entries == LIST_SIZE {

@@ -33,13 +33,14 @@ impl Search {
 }
 
 // Goes from entry to entry, from 511 to 0, until the object or an empty one.
+// The entry goes from turn to turn: reckoned in each from how many are passed, it takes more instructions.
 pub fn find_object(oids: &[u32], oid: u32) -> Search
     requires { length oids.now ≡ 512 }
     ensures { result ≡ search oids.now oid }
 {
     let start = start_of(oid) as usize;
-    for passed in 0..ENTRY_COUNT {
-        let i = (start + passed) % ENTRY_COUNT;
+    let mut i = start;
+    for _ in 0..ENTRY_COUNT {
         let o = oids[i];
         if o == 0 {
             return Search::Empty(i);
@@ -47,6 +48,7 @@ pub fn find_object(oids: &[u32], oid: u32) -> Search
         if o == oid {
             return Search::Found(i);
         }
+        i = (i + 1) % ENTRY_COUNT;
     }
     Search::Empty(start)
 }

@@ -1,3 +1,5 @@
+pub mod Answers
+pub mod Bools
 pub mod Corners
 pub mod Covers
 pub mod Next

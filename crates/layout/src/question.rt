@@ -7,7 +7,7 @@ use crate::place::{cell_of, on_grid};
 use base::{CELL_COUNT, Corrupt};
 
 // A rectangle by its lower and its upper corner.
-#[derive(Clone, Copy, Debug, PartialEq, Eq)]
+#[derive(Clone, Copy, Debug, Default, PartialEq, Eq)]
 pub struct Question {
     pub x0: u32,
     pub y0: u32,

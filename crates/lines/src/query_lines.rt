@@ -5,8 +5,9 @@ ghost use Rattle.lines.specs.Line.{asked_of};
 ghost use Rattle.lines.specs.Promise.{AnswersQuery};
 ghost use Rattle.tables.specs.Promise.{OnGrid};
 
+use calls::pace::{Pace, Stepped};
+use calls::refusal::Refusal;
 use layout::question::Question as Rectangle;
-use queries::lanes::Swept;
 use queries::start::query_start;
 use queries::step::query_step;
 use query::Query;
@@ -32,12 +33,24 @@ fn asked_of(q: QueryStart) -> Region
     Region { kind, area, radius }
 }
 
-// Starts a query, or does a step of one.
-pub fn query_line(line: QueryLine, queries: [Query; 4], words: &mut [u32], times: &[i32]) -> Swept
+// Starts a query, which moves on, or does a step of one.
+// The line was read as data, so a match on it is plainer than a closure.
+pub fn query_line(
+    line: QueryLine,
+    queries: [Query; 4],
+    words: &mut [u32],
+    times: &[i32],
+) -> Result<Stepped<[Query; 4]>, Refusal>
     ensures { OnGrid (lent words) (seen times) (AnswersQuery line queries result) }
 {
     match line {
-        QueryLine::Start(q) => { query_start(queries, q.lane, asked_of(q), words, times) }
+        QueryLine::Start(q) => {
+            let lanes = query_start(queries, q.lane, asked_of(q), words, times)?;
+            Ok(Stepped {
+                pace: Pace::Moved,
+                lanes,
+            })
+        }
         QueryLine::Step(lane) => query_step(queries, lane, words, times),
     }
 }

@@ -1,78 +1,63 @@
 // ONE LINE of a script on the grid: the call that it asks for, or 13.
-ghost use Rattle.std.specs.Prelude.{◌≡◌};
 ghost use Rattle.base.specs.Lent.{seen, lent};
-ghost use Rattle.lines.specs.Promise.{Answers, plain_step};
+ghost use Rattle.script.specs.Parse.{parse_line};
+ghost use Rattle.lines.specs.Promise.{Answers, Lists};
 ghost use Rattle.tables.specs.Promise.{OnGrid};
 
 use crate::list_lines::list_line;
 use crate::query_lines::query_line;
 use crate::update_lines::update_line;
-use base::UNREADABLE;
-use collect::whole::Collected;
-use query::Query;
+use calls::pace::{Pace, Stepped};
+use calls::refusal::Refusal;
+use collect::read::Reading;
+use rest::Lanes;
 use script::line::Line;
 use script::parse::parse;
-use stage::Updater;
 
-// What a line gives: the number of its call (document 01), or 13; for a reading and a collection also the steps of the query and how many numbers of the lent list are filled; and the lanes afterwards.
-#[derive(Clone, Copy)]
+// What an accepted line gives. Listed: it is a collection or a reading, whose list is handed back in `out[..filled]`.
+// Went: it is anything else.
+#[derive(Clone, Copy, Debug, PartialEq, Eq)]
+pub enum Answer {
+    Went(Pace),
+    Listed(Reading),
+}
+
+// An accepted line: what it gives, and the lanes afterwards.
+#[derive(Clone, Copy, Debug, PartialEq, Eq)]
 pub struct LineStep {
-    pub number: u32,
-    pub steps: u32,
-    pub filled: usize,
-    pub updaters: [Updater; 8],
-    pub queries: [Query; 4],
+    pub answer: Answer,
+    pub lanes: Lanes,
 }
 
-// A number, with no steps and no list.
-fn plain_step(number: u32, updaters: [Updater; 8], queries: [Query; 4]) -> LineStep
-    ensures { result ≡ plain_step number updaters queries }
-{
-    LineStep {
-        number,
-        steps: 0,
-        filled: 0,
-        updaters,
-        queries,
-    }
-}
-
-// Does what one line says, without its line feed. An unreadable one gives 13 and changes nothing; a reading and a collection hand their list back in `out[..filled]`.
-#[tactic(auto, unfolding(crate::specs::Line::line_step, crate::specs::Line::command_step, crate::specs::Line::call_of, grid::specs::Run::call, collect::specs::Filling::collect_into, collect::specs::Filling::read_into))]
+// The line was read as data, so a match on it is plainer than a closure.
+// Does what one line says, without its line feed. Refused as its call is, or with 13 (unreadable), which changes
+// nothing.
+#[tactic(auto, unfolding(crate::specs::Line::line_step, crate::specs::Line::command_step, crate::specs::Line::call_of, crate::specs::Line::lists, grid::specs::Run::call, collect::specs::Filling::collect_into, collect::specs::Filling::read_into))]
 pub fn line_step(
     line: &[u8],
     out: &mut [u32],
-    updaters: [Updater; 8],
-    queries: [Query; 4],
+    lanes: Lanes,
     words: &mut [u32],
     times: &mut [i32],
-) -> LineStep
-    ensures { OnGrid (lent words) (lent times) (Answers (seen line) (lent out) updaters queries result) }
+) -> Result<LineStep, Refusal>
+    ensures answers { OnGrid (lent words) (lent times) (Answers (seen line) (lent out) lanes result) }
+    ensures lists { Lists (parse_line line.now) result }
 {
-    match parse(line) {
-        None => plain_step(UNREADABLE, updaters, queries),
-        Some(Line::Update(u)) => {
-            let stepped = update_line(u, updaters, words, times);
-            plain_step(stepped.number, stepped.updaters, queries)
+    let Lanes { updaters, queries } = lanes;
+    let (answer, updaters, queries) = match parse(line).ok_or(Refusal::Unreadable)? {
+        Line::Update(u) => {
+            let Stepped { pace, lanes } = update_line(u, updaters, words, times)?;
+            (Answer::Went(pace), lanes, queries)
         }
-        Some(Line::Query(q)) => {
-            let swept = query_line(q, queries, words, times);
-            plain_step(swept.number, updaters, swept.queries)
+        Line::Query(q) => {
+            let Stepped { pace, lanes } = query_line(q, queries, words, times)?;
+            (Answer::Went(pace), updaters, lanes)
         }
-        Some(Line::OnList(l)) => {
-            let Collected {
-                number,
-                steps,
-                filled,
-                queries,
-            } = list_line(l, queries, out, words, times);
-            LineStep {
-                number,
-                steps,
-                filled,
-                updaters,
-                queries,
-            }
+        Line::OnList(l) => {
+            let (answer, lanes) = list_line(l, queries, out, words, times)?;
+            (answer, updaters, lanes)
         }
-    }
+    };
+    let lanes = Lanes { updaters, queries };
+    Ok(LineStep { answer, lanes })
 }

@@ -1,3 +1,4 @@
+pub mod Answers
 pub mod Laws
 mod Refill
 pub mod Refused

@@ -3,88 +3,72 @@ ghost use Rattle.queries.specs.Promise.{EndsStep, Steps, StepsOne};
 ghost use Rattle.base.specs.Lent.{seen, lent};
 ghost use Rattle.tables.specs.Promise.{OnGrid};
 
-use crate::lanes::{Swept, SweptOne, is_finished, is_idle, number_of};
 use crate::scanning::scan_step;
-use base::{BLOCKED, CORRUPT, LANE_IDLE, NO_SUCH_LANE, QUERY_COUNT, QUERY_FINISHED, Stop};
-use calls::no_lane;
-use query::Query;
+use base::{QUERY_COUNT, Stop};
+use calls::pace::{Pace, Stepped};
+use calls::refusal::{Refusal, no_lane};
+use hits::lane::QueryLane;
+use query::{Query, Scan};
 use words::{TIMES, WORDS};
 
-// What a step gives, from how it ended.
-pub fn end_step(q: Query, progress: Result<Query, Stop>) -> SweptOne
+// What a step gives, from how it ended: finished where nothing comes next.
+pub fn end_step(q: Query, progress: Result<Query, Stop>) -> Result<Stepped<Query>, Refusal>
     ensures { EndsStep q progress result }
 {
-    match progress {
-        Err(Stop::Corrupt) => SweptOne {
-            number: CORRUPT,
-            query: q,
+    let (pace, lanes) = match progress {
+        Err(Stop::Corrupt) => return Err(Refusal::Corrupt),
+        Err(Stop::Blocked) => (Pace::Blocked, q),
+        Ok(next) => match next.stage {
+            Scan::Finished => (Pace::Finished, next),
+            _ => (Pace::Moved, next),
         },
-        Err(Stop::Blocked) => SweptOne {
-            number: BLOCKED,
-            query: q,
-        },
-        Ok(next) => SweptOne {
-            number: number_of(next.stage),
-            query: next,
-        },
-    }
+    };
+    Ok(Stepped { pace, lanes })
 }
 
-// One step of the query in a lane, given by value. Gives 0, 20 or 22, or is refused with 12 (lengths), 1, 3, 9, or 12 (a stored number).
-pub fn step_one(q: Query, lane: u32, words: &mut [u32], times: &[i32]) -> SweptOne
+// One step of the query in a lane, given by value. Refused with 12 (lengths), 1, 3, 9, or 12 (a stored number), which
+// leaves the lane as it is.
+pub fn step_one(
+    q: Query,
+    lane: u32,
+    words: &mut [u32],
+    times: &[i32],
+) -> Result<Stepped<Query>, Refusal>
     ensures { OnGrid (lent words) (seen times) (StepsOne q lane result) }
 {
     let Some(words) = words.as_mut_array::<WORDS>() else {
-        return SweptOne {
-            number: CORRUPT,
-            query: q,
-        };
+        return Err(Refusal::Corrupt);
     };
     let Some(times) = times.as_array::<TIMES>() else {
-        return SweptOne {
-            number: CORRUPT,
-            query: q,
-        };
+        return Err(Refusal::Corrupt);
     };
-    if lane >= QUERY_COUNT {
-        return SweptOne {
-            number: NO_SUCH_LANE,
-            query: q,
-        };
+    let Some(at) = QueryLane::new(lane) else {
+        return Err(Refusal::NoSuchLane);
+    };
+    match q.stage {
+        Scan::Idle => Err(Refusal::LaneIdle),
+        Scan::Finished => Err(Refusal::QueryFinished),
+        _ => end_step(q, scan_step(words, times, at, q)),
     }
-    let s = q.stage;
-    if is_idle(s) {
-        return SweptOne {
-            number: LANE_IDLE,
-            query: q,
-        };
-    }
-    if is_finished(s) {
-        return SweptOne {
-            number: QUERY_FINISHED,
-            query: q,
-        };
-    }
-    let progress = scan_step(words, times, lane, q);
-    end_step(q, progress)
 }
 
 // One step of the query in one of the lanes: what `step_one` does there.
-pub fn query_step(queries: [Query; 4], lane: u32, words: &mut [u32], times: &[i32]) -> Swept
+// Written out for each call: the five are lent words and stamps in three ways (to read, one to write, both to write), so
+// that no one type of closure fits them, and a closure with its contract is longer than these lines.
+pub fn query_step(
+    queries: [Query; 4],
+    lane: u32,
+    words: &mut [u32],
+    times: &[i32],
+) -> Result<Stepped<[Query; 4]>, Refusal>
     ensures { OnGrid (lent words) (seen times) (Steps queries lane result) }
 {
     if lane >= QUERY_COUNT {
-        let number = no_lane(words.len(), times.len());
-        return Swept { number, queries };
+        return Err(no_lane(words.len(), times.len()));
     }
     let at = lane as usize;
-    let q = queries[at];
-    let one = step_one(q, lane, words, times);
-    let v = one.query;
-    let mut next = queries;
-    next[at] = v;
-    Swept {
-        number: one.number,
-        queries: next,
-    }
+    let Stepped { pace, lanes: q } = step_one(queries[at], lane, words, times)?;
+    let mut lanes = queries;
+    lanes[at] = q;
+    Ok(Stepped { pace, lanes })
 }

@@ -52,6 +52,11 @@ module _ (w : List ℕ) (ts : List ℤ) where
       lifted (with_readers (grid w ts)) (readers_in w) o s (readers_in w') e
       ∙ ap (λ (t : Tables). (s, t)) (sym (put_readers_lem w ts w# (readers_in w') (part_length w' READERS 512 (omega arith))) ∙ ap (λ (l : List ℕ). grid l ts) p)
 
+  -- the same of a step told on all tables
+  pub reads_there : (o : Outcome (Step Query (List ℕ))) (s : Said Query) → length w ≡ WORDS → (w' : List ℕ) → length w' ≡ length w → put_readers w (readers_in w') ≡ w' → turned (readers_in w) o ≡ (s, readers_in w')
+      → turned (grid w ts) (lift (with_readers (grid w ts)) o) ≡ (s, grid w' ts)
+  reads_there o s w# w' k p e = reads o s w# w' (k ∙ w#) p e
+
   -- a step that goes on as the query comes to stand
   module _ (w# : length w ≡ WORDS) (w' : List ℕ) (w'# : length w' ≡ WORDS) (q : Query) (c : ℕ) (o : Outcome Reading) where
     abbrev stands : Outcome (Step Query (List ℕ))

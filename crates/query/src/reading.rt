@@ -1,6 +1,6 @@
 // Reading the next slot of a bucket, downwards.
 // On the words and the stamps that hold all tables.
-ghost use Rattle.std.specs.Prelude.{◌≡◌, ◌<◌, length};
+ghost use Rattle.std.specs.Prelude.{◌≡◌, length};
 ghost use Rattle.hits.specs.Hits.{hits_at, Notes};
 ghost use Rattle.query.specs.Scan.{comparable, consider};
 ghost use Rattle.query.specs.On.{read_on};
@@ -12,6 +12,7 @@ ghost use Rattle.base.specs.Lent.{seen, lent};
 use crate::moving::one_more;
 use crate::{Query, Scan};
 use base::{Corrupt, Stop};
+use hits::lane::QueryLane;
 use hits::note_tuple;
 use readers::Standing;
 use regions::inside::is_inside;
@@ -28,9 +29,9 @@ fn can_compare(t: Seen, stamp: u32) -> bool
 }
 
 // Notes a tuple if it is inside and the query may see it. Gives the size of the query's list afterwards.
-fn consider_tuple(list: &mut [u32], lane: u32, q: Query, t: Seen) -> Result<u32, Corrupt>
-    requires { (length list.old ≡ HITS-SIZE) × (lane < 4) }
-    ensures { Notes (λ h. consider h lane q t) result (hits_at list.old) (hits_at list.new) }
+fn consider_tuple(list: &mut [u32], lane: QueryLane, q: Query, t: Seen) -> Result<u32, Corrupt>
+    requires { length list.old ≡ HITS-SIZE }
+    ensures { Notes (λ h. consider h lane.number q t) result (hits_at list.old) (hits_at list.new) }
 {
     if !is_inside(q.question, t.x, t.y) {
         return Ok(q.hits);
@@ -48,13 +49,12 @@ fn consider_tuple(list: &mut [u32], lane: u32, q: Query, t: Seen) -> Result<u32,
 pub fn read_step(
     words: &mut [u32; WORDS],
     times: &[i32; TIMES],
-    lane: u32,
+    lane: QueryLane,
     q: Query,
     cell: u32,
     s: Standing,
 ) -> Result<Query, Stop>
-    requires { lane < 4 }
-    ensures { OnGrid (lent words) (seen times) (Progresses (λ t. read_on t lane q cell s) result) }
+    ensures { OnGrid (lent words) (seen times) (Progresses (λ t. read_on t lane.number q cell s) result) }
 {
     let next = one_more(q)?;
     check_region(q.question).map_err(|_| Corrupt)?;

@@ -1,11 +1,12 @@
--- The points that satisfy a question: what touching means.
+-- The points that satisfy a question: what touching means, and the questions by kind.
 -- A coordinate lies as far from the nearest one of an interval as it lies outside the interval,
 -- and to no other is it nearer.
 use mathlib.Core.Path.{◌≡◌}
-use mathlib.Core.Bool.{true}
+use mathlib.Core.Bool.{true, false, ◌&&◌}
 use mathlib.Core.Logic.{◌↔◌}
 use Prim.Native.Nat.{ℕ, ◌+◌, ◌-◌, ◌≤◌}
 use native.Mathlib.Omega.{arith}
+use lib.Dec.{leb}
 use borrow.Author.Tests.{le-leb, leb-true}
 use Rattle.layout.specs.Question as area
 use Rattle.layout.specs.declared.question.Question.{Question as Rectangle}
@@ -13,7 +14,9 @@ use Rattle.std.proofs.lemmas.Bool.Decides.{nat_tests}
 use Rattle.layout.specs.Question.{Proper}
 use Rattle.layout.proofs.Corners.{proper_facts}
 use Rattle.regions.specs.Near.{Near}
-use Rattle.regions.specs.Region.{square, apart, nearest, touching}
+use Rattle.regions.specs.Region.{square, apart, nearest, touching, within, satisfies, inside}
+use Rattle.regions.specs.declared.region.Kind.TheVariants.{Touching, Within, Centre}
+use Rattle.regions.specs.declared.region.Region.{Region}
 use Rattle.regions.proofs.Squares.{square_more}
 
 -- ---- one coordinate
@@ -62,3 +65,28 @@ touching_near a r x y h =
           le-leb (square dx + square dy) (square r)
           (omega (arith, n.close, i, j))),
     )
+
+-- ---- by kind
+
+module _ (a : Rectangle) (r x y : ℕ) where
+  pub within_no : (leb (a.x0 + r) x && leb (x + r) a.x1) ≡ false → within a r x y ≡ false
+  unfolding within
+  within_no h = rw h
+
+  pub within_yes : (leb (a.x0 + r) x && leb (x + r) a.x1) ≡ true
+      → within a r x y ≡ (leb (a.y0 + r) y && leb (y + r) a.y1)
+  unfolding within
+  within_yes h = rw h
+
+module _ (g : Region) (x y : ℕ) where
+  pub inside_touching : g.kind ≡ Touching → inside g x y ≡ touching g.area g.radius x y
+  unfolding inside satisfies
+  inside_touching e = rw e
+
+  pub inside_within : g.kind ≡ Within → inside g x y ≡ within g.area g.radius x y
+  unfolding inside satisfies
+  inside_within e = rw e
+
+  pub inside_centre : g.kind ≡ Centre → inside g x y ≡ area.inside g.area x y
+  unfolding inside satisfies
+  inside_centre e = rw e

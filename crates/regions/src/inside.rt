@@ -27,8 +27,8 @@ pub fn is_close(dx: u32, dy: u32, radius: u32) -> bool
 pub fn is_deep(low: u32, high: u32, radius: u32, first: u32, last: u32) -> bool
     ensures { result ≡ (leb (low + radius) first && leb (last + radius) high) }
 {
-    let r = u64::from(radius);
-    u64::from(low) + r <= u64::from(first) && u64::from(last) + r <= u64::from(high)
+    first.checked_sub(low).is_some_and(|gap| gap >= radius)
+        && high.checked_sub(last).is_some_and(|gap| gap >= radius)
 }
 
 // Whether a point lies at most the radius from the rectangle.

@@ -6,14 +6,15 @@ use layout::question::{BadCorners, Question as Rectangle, check_corners};
 
 // Touching: the point lies at most the radius from the rectangle. Within: at least the radius inside each of its sides.
 // Centre: in the rectangle.
-#[derive(Clone, Copy, Debug, PartialEq, Eq)]
+#[derive(Clone, Copy, Debug, Default, PartialEq, Eq)]
 pub enum Kind {
+    #[default]
     Touching,
     Within,
     Centre,
 }
 
-#[derive(Clone, Copy, Debug, PartialEq, Eq)]
+#[derive(Clone, Copy, Debug, Default, PartialEq, Eq)]
 pub struct Region {
     pub kind: Kind,
     pub area: Rectangle,

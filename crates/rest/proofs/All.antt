@@ -1,8 +1,9 @@
--- A test of every number below n, as a loop makes it: one number after the other, up to the first that fails.
-use mathlib.Core.Path.{◌≡◌, refl, sym}
+-- A test of every number below n: what one that fails and what each that holds say of it, and that it is the library's
+-- test of every element of an array.
+use mathlib.Core.Path.{◌≡◌, refl}
 use mathlib.Core.List.{List}
 use mathlib.Core.Bool.{Bool, true, false}
-use Prim.Native.Nat.{ℕ, zero, suc, ◌+◌, ◌<◌, ◌≤◌}
+use Prim.Native.Nat.{ℕ, zero, suc, ◌<◌, ◌≤◌}
 use native.Mathlib.Numerals.{add-one}
 use native.Mathlib.Omega.{arith}
 use lib.ListN.{length, get_or, take}
@@ -15,15 +16,6 @@ use Rattle.base.proofs.Table.{at_or}
 use Rattle.rest.specs.Rest.{all_below}
 
 module _ (f : ℕ → Bool) where
-  pub all_none : all_below 0 f ≡ true
-  unfolding all_below
-  all_none = refl
-
-  -- one more
-  pub all_more : (n : ℕ) → all_below n f ≡ true → f n ≡ true → all_below (n + 1) f ≡ true
-  unfolding all_below
-  all_more n e h = rw (add-one n, h, e)
-
   -- one fails
   pub all_fails : (n i : ℕ) → i < n → f i ≡ false → all_below n f ≡ false
   unfolding all_below
@@ -44,10 +36,6 @@ module _ (f : ℕ → Bool) where
   unfolding all_below
   all_from zero h = refl
   all_from (suc n) h = rw (h n (omega arith)) (all_from n (λ i k. h i (omega arith)))
-
-  -- the loop is over
-  pub all_below_lem : (n i : ℕ) → i ≤ n → n ≤ i → all_below i f ≡ true → true ≡ all_below n f
-  all_below_lem n i h k e = let z : i ≡ n = omega arith in sym (rw z at e)
 
 -- the library's test of every element, in the elements' order
 module _ {X : Type 0} (p : X → Bool) (d : X) where

@@ -1,18 +1,24 @@
-// Whether the grid is at rest (document 02): no update is under way, and every query lane is idle.
+// The lanes of the grid, and whether it is at rest (document 02): no update is under way, and every query lane is idle.
 // A query that has finished and is not collected is not at rest.
 #![tactic(auto)]
 
 ghost use Rattle.std.specs.Prelude.{◌≡◌};
 ghost use Rattle.rest.specs.Rest.{is_at_rest};
 
-use queries::lanes::is_idle as is_idle_query;
-use query::Query;
-use stage::Updater;
-use updates::lanes::is_idle;
+use query::{Query, Scan};
+use stage::{Stage, Updater};
+
+// The lanes of the grid: arrays by value, as document 01 asks.
+#[derive(Clone, Copy, Debug, PartialEq, Eq)]
+pub struct Lanes {
+    pub updaters: [Updater; 8],
+    pub queries: [Query; 4],
+}
 
 // Whether the grid with these lanes is at rest.
-pub fn at_rest(updaters: [Updater; 8], queries: [Query; 4]) -> bool
-    ensures { result ≡ is_at_rest updaters queries }
+pub fn at_rest(lanes: Lanes) -> bool
+    ensures { result ≡ is_at_rest lanes.updaters lanes.queries }
 {
-    updaters.iter().all(|u| is_idle(u.stage)) && queries.iter().all(|q| is_idle_query(q.stage))
+    lanes.updaters.iter().all(|u| u.stage == Stage::Idle)
+        && lanes.queries.iter().all(|q| q.stage == Scan::Idle)
 }

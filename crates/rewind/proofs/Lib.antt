@@ -1,3 +1,4 @@
 pub mod Refusals
 pub mod Returns
 pub mod Winding
+pub mod Ways

@@ -11,7 +11,8 @@ pub struct Numeral<'a> {
     pub rest: &'a [u8],
 }
 
-// Reads on, behind digits whose value is known, up to a byte that is no digit.
+// Reads on, behind digits whose value is known, up to a byte that is no digit. Each turn goes on with the rest that it
+// leaves; there is no index to count.
 fn read_digits(bytes: &[u8], value: u32) -> Option<Numeral<'_>>
     ensures { option_map front_at result ≡ digits_on value bytes.now }
 {

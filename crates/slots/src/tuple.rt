@@ -20,6 +20,7 @@ pub struct Report {
 }
 
 // A tuple with its stamp taken apart into sign and magnitude. The tag is the one that was reported with the place.
+// The flag is the stamp's sign; it says nothing of whether a tuple is there, so no Option fits.
 #[derive(Clone, Copy, Debug, PartialEq, Eq)]
 pub struct Seen {
     pub oid: u32,

@@ -44,3 +44,42 @@ module _ {A B : Type 0} (g : A → B) (t t' : B) (o : Outcome A) (s : Stage) whe
       → Ends (Ok (Advanced s)) (lift g (and_then o (λ a. advance s a)))
   unfolding and_then turn_tells turn_leaves tells
   change_made x e = let d = ended_done nothing g t t' o e in rw (goes_on g s o, d.1, d.3)
+
+-- ---- the same by the answer of the function that makes the change
+
+-- the end of a step that makes one change and goes on to a stage: as the change ended
+abbrev pub turn_after : Result ⊤ Corrupt → Stage → Result Turn Stop
+turn_after (Err x) s = Err StopCorrupt
+turn_after (Ok x) s = Ok (Advanced s)
+
+-- the same of a change that may have to wait
+abbrev pub turn_attempted : Result ⊤ Stop → Stage → Result Turn Stop
+turn_attempted (Err x) s = Err x
+turn_attempted (Ok x) s = Ok (Advanced s)
+
+module _ {A B : Type 0} (g : A → B) (t t' : B) (o : Outcome A) (s : Stage) where
+  after : (r : Result ⊤ Corrupt) → ended nothing g t o ≡ (tells nothing (outcome_of r), t') →
+      Ends g t t' o s (turn_after r s) (lift g (and_then o (λ a. advance s a)))
+  after (Err x) e = change_refused g t t' o s x e
+  after (Ok x) e = change_made g t t' o s x e
+
+  attempted : (r : Result ⊤ Stop) → ended nothing g t o ≡ (tells nothing (attempt_of r), t') →
+      Ends g t t' o s (turn_attempted r s) (lift g (and_then o (λ a. advance s a)))
+  attempted (Err x) e = change_stopped g t t' o s x e
+  attempted (Ok x) e = change_made g t t' o s x e
+
+  -- as turn_after answers
+  pub turns_after : (r : Result ⊤ Corrupt) {u : Result Turn Stop} → ended nothing g t o ≡ (tells nothing (outcome_of r), t') → u ≡ turn_after r s →
+      turned t (lift g (and_then o (λ a. advance s a))) ≡ (turn_says u, t')
+  turns_after r e q = rw q (after r e)
+
+  -- as turn_attempted answers
+  pub turns_attempted : (r : Result ⊤ Stop) {u : Result Turn Stop} → ended nothing g t o ≡ (tells nothing (attempt_of r), t') → u ≡ turn_attempted r s →
+      turned t (lift g (and_then o (λ a. advance s a))) ≡ (turn_says u, t')
+  turns_attempted r e q = rw q (attempted r e)
+
+-- the same on its own tables alone
+pub own_attempted : {A : Type 0} (t t' : A) (o : Outcome A) (s : Stage) (r : Result ⊤ Stop) {u : Result Turn Stop} →
+    ended nothing (λ (x : A). x) t o ≡ (tells nothing (attempt_of r), t') → u ≡ turn_attempted r s →
+    turned t (and_then o (λ a. advance s a)) ≡ (turn_says u, t')
+own_attempted {A} t t' o s r e q = rw (← goes_on (λ (x : A). x) s o) (turns_attempted (λ (x : A). x) t t' o s r e q)

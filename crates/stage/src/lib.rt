@@ -14,8 +14,9 @@ use locks::take_lock;
 // What an update does next, with the data of that stage (document 01: the stages of a report).
 // The place of stages 2 to 7 is the one being erased; the object with it is the one whose tuple moves there.
 // The place of stages 11 and 12 is the new one, that of stage 13 the old one.
-#[derive(Clone, Copy, Debug, PartialEq, Eq)]
+#[derive(Clone, Copy, Debug, Default, PartialEq, Eq)]
 pub enum Stage {
+    #[default]
     Idle,
     TakeObject,
     LockCell(Place),
@@ -33,7 +34,7 @@ pub enum Stage {
     ReleaseObject,
 }
 
-#[derive(Clone, Copy, Debug, PartialEq, Eq)]
+#[derive(Clone, Copy, Debug, Default, PartialEq, Eq)]
 pub struct Updater {
     pub oid: u32,
     pub x: u32,

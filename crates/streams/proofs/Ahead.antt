@@ -1,91 +1,125 @@
 -- THE NEXT LINE from its parts: the room that was made and the line that was read make a `NextLine`. Where the input
 -- has ended, the last line is what is kept, if that is not empty.
-use mathlib.Core.Path.{◌≡◌, refl, sym, ap, ◌∙◌}
+use mathlib.Core.Path.{◌≡◌, refl, sym, ap, subst, ◌∙◌}
 use mathlib.Core.Logic.{◌⊎◌, inl, inr}
-use mathlib.Core.Bool.{Bool, true, false, not}
+use mathlib.Core.Bool.{true, false}
 use mathlib.Core.List.{List, [], ◌∷◌, ◌++◌}
-use Rattle.std.specs.Prelude.{Option, None, Some, Result, Ok}
+use Rattle.std.specs.Prelude.{Option, None, Some, Result, Ok, Err}
 use Prim.Native.Nat.{ℕ, ◌≤◌}
 use native.Mathlib.Omega.{arith}
 use lib.Dec.{eqb}
 use lib.ListN.{length}
-use borrow.Author.Tests.{ne_eqb}
+use borrow.Author.Tests.{eqb-true, eqb-false}
 use Rattle.streams.specs.Lines.{joined, last_line, kept_lines}
 use Rattle.streams.specs.Reading.{coming, has_ended, unread, Fetches}
 use Rattle.streams.specs.Writing.{Room}
-use Rattle.streams.specs.Next.{is_line, due, NextLine}
+use Rattle.streams.specs.Next.{due, NextLine}
 use Rattle.streams.specs.declared.input.Fetched.{Fetched}
 use Rattle.streams.specs.declared.input.Fetched.TheVariants.{End}
 use Rattle.streams.specs.declared.input.Input.{Input}
 use Rattle.streams.specs.declared.output.Handed.{Handed}
 use Rattle.streams.specs.declared.progress.Failed.{Failed}
 use Rattle.streams.specs.declared.progress.Progress.{Progress}
+use Rattle.streams.specs.declared.progress.Progress.TheVariants.{Open, Ended}
 use Rattle.streams.proofs.Fetching.{unread_none}
 
 -- ---- room
 
-room_either : {w w' : ℕ} (o : Option Handed) → Room w w' o → (w' ≡ w) ⊎ (w' ≡ 0)
+room_either : {out out' : List ℕ} (o : Option Handed) → Room out out' o → (out' ≡ out) ⊎ (out' ≡ [])
 room_either None r = inl r.1
 room_either (Some h) r = inr r.1
 
-room_small : (w : ℕ) {w' : ℕ} (o : Option Handed) → Room w w' o → w' ≤ 5056
-room_small w None r = omega arith
-room_small w (Some h) r = omega arith
+room_small : (out out' : List ℕ) (o : Option Handed) → Room out out' o → length out' ≤ 5056
+room_small out out' None r = omega (arith, ap length r.1)
+room_small out out' (Some h) r = omega (arith, ap length r.1)
 
--- ---- no line more: reading stays where it is
+-- ---- the input had ended before
 
-pub next_stopped : (block line : List ℕ) (p p' : Progress) (o : Option Handed) (r : Result Bool Failed)
-    → Room p.waiting p'.waiting o → line ≡ [] → p.input.filled ≤ length block
-    → p'.last ≡ p.last → p'.input ≡ p.input → is_line r ≡ false → NextLine block p block line p' r
-unfolding joined
-next_stopped block line p p' o r w e h l i m =
+pub next_over : (block line out out' : List ℕ) (o : Option Handed) → Room out out' o → line ≡ []
+    → NextLine block Ended out block line Ended out' (Ok End)
+unfolding joined kept_lines last_line
+next_over block line out out' o w e =
     record {
-      filled = rw i h;
+      ready = tt;
       few = omega (arith, ap length e);
       room = room_either o w;
-      small = room_small _ o w;
+      small = room_small out out' o w;
       blocks = [];
-      allowed = λ later k. rw l at k;
-      lines = λ later k. rw (m, l, i, e);
+      allowed = λ later k. k;
+      lines = λ later k. rw k;
     }
 
--- ---- a line
+-- ---- nothing was read: reading stays where it is
 
--- the last line, if there is one
-last_due : (line : List ℕ) → kept_lines line [] ≡ due (not (eqb (length line) 0)) true line []
-unfolding kept_lines last_line
-last_due [] = refl
-last_due (b ∷ line) = rw (ne_eqb (length (b ∷ line)) 0 (λ e. omega arith))
-
--- the input has ended
-pub next_ended : {E : Type 0} {block line block' line' : List ℕ} {p p' : Progress} {i : Input} {q : Result (Option Fetched) E}
-    (o : Option Handed) (r : Result Bool Failed)
-    → Fetches block line i block' line' p'.input q → q ≡ Ok (Some End) → Room p.waiting p'.waiting o → line ≡ [] → i ≡ p.input
-    → p.last ≡ false → p'.last ≡ true → is_line r ≡ not (eqb (length line') 0)
-    → NextLine block p block' line' p' r
-next_ended {block = block} {line = line} {block' = block'} {line' = line'} {p = p} {p' = p'} {i = i} {q = q} o r f end w e j l k m =
-    let n = p'.input in
-    let over : n.filled ≡ 0 = f.ended (ap has_ended end) in
-    let gone : unread block' n.next n.filled ≡ [] = unread_none block' n.next n.filled (omega arith) in
+pub next_unread : (block line out out' : List ℕ) (i : Input) (o : Option Handed) (f : Failed)
+    → Room out out' o → line ≡ [] → i.filled ≤ length block → NextLine block (Open i) out block line (Open i) out' (Err f)
+unfolding joined
+next_unread block line out out' i o f w e h =
     record {
-      filled = f.within.filled;
-      few = f.within.few;
+      ready = h;
+      few = omega (arith, ap length e);
       room = room_either o w;
-      small = room_small _ o w;
-      blocks = f.blocks;
-      allowed = λ later h. rw l tt;
-      lines =
-          λ later h.
-          let none : later ≡ [] = rw k at h in
-          ap (λ (b : Bool). due false b [] (unread block p.input.next p.input.filled ++ (joined f.blocks ++ later))) l
-          ∙ ap (λ (x : Input). kept_lines [] (unread block x.next x.filled ++ (joined f.blocks ++ later))) (sym j)
-          ∙ ap (λ (x : List ℕ). kept_lines x (unread block i.next i.filled ++ (joined f.blocks ++ later))) (sym e)
-          ∙ f.lines later
-          ∙ ap (λ (s : Result (Option Fetched) _). coming s line' (unread block' n.next n.filled ++ later)) end
-          ∙ ap (λ (x : List ℕ). kept_lines line' (x ++ later)) gone ∙ ap (kept_lines line') none
-          ∙ last_due line'
-          ∙ ap (λ (x : List ℕ). due (not (eqb (length line') 0)) true line' x) (sym none)
-          ∙ ap (λ (x : List ℕ). due (not (eqb (length line') 0)) true line' (x ++ later)) (sym gone)
-          ∙ ap (λ (b : Bool). due b true line' (unread block' n.next n.filled ++ later)) (sym m)
-          ∙ ap (λ (b : Bool). due (is_line r) b line' (unread block' n.next n.filled ++ later)) (sym k);
+      small = room_small out out' o w;
+      blocks = [];
+      allowed = λ later k. tt;
+      lines = λ later k. rw e;
     }
+
+-- the input had ended, and a write failed
+pub next_unwritten : (block line out out' : List ℕ) (o : Option Handed) (f : Failed) → Room out out' o → line ≡ []
+    → NextLine block Ended out block line Ended out' (Err f)
+unfolding joined kept_lines last_line
+next_unwritten block line out out' o f w e =
+    record {
+      ready = tt;
+      few = omega (arith, ap length e);
+      room = room_either o w;
+      small = room_small out out' o w;
+      blocks = [];
+      allowed = λ later k. k;
+      lines = λ later k. rw (e, k);
+    }
+
+-- ---- a line was read, or begun
+
+module _ {E : Type 0} {block line block' line' : List ℕ} {i i' : Input} {q : Result (Option Fetched) E} (out out' : List ℕ)
+    (o : Option Handed) (w : Room out out' o) (e : line ≡ []) (f : Fetches block line i block' line' i' q) where
+  first : (later : List ℕ) → kept_lines [] (unread block i.next i.filled ++ (joined f.blocks ++ later)) ≡ coming q line' (unread block' i'.next i'.filled ++ later)
+  first later = ap (λ (l : List ℕ). kept_lines l (unread block i.next i.filled ++ (joined f.blocks ++ later))) (sym e) ∙ f.lines later
+
+  -- the input has ended: the last line is what is kept, if there is something
+  pub next_ended : {p : Progress} (r : Result Fetched Failed) → p ≡ Open i → q ≡ Ok (Some End) → last_line line' ≡ due r line' []
+      → NextLine block p out block' line' Ended out' r
+  unfolding kept_lines
+  next_ended r start end last =
+      subst (λ (p : Progress). NextLine block p out block' line' Ended out' r) (sym start)
+      (
+      let over : i'.filled ≡ 0 = f.ended (ap has_ended end) in
+      let gone : unread block' i'.next i'.filled ≡ [] = unread_none block' i'.next i'.filled (omega arith) in
+      record {
+        ready = tt;
+        few = f.within.few;
+        room = room_either o w;
+        small = room_small out out' o w;
+        blocks = f.blocks;
+        allowed = λ later k. tt;
+        lines =
+            λ later k.
+            first later
+            ∙ ap (λ (s : Result (Option Fetched) E). coming s line' (unread block' i'.next i'.filled ++ later)) end
+            ∙ ap (λ (x : List ℕ). kept_lines line' (x ++ later)) gone
+            ∙ ap (kept_lines line') k
+            ∙ last
+            ∙ ap (due r line') (sym k);
+      })
+
+-- whether something is kept
+pub last_none : (line : List ℕ) → eqb (length line) 0 ≡ true → last_line line ≡ []
+unfolding last_line
+last_none [] e = refl
+last_none (b ∷ line) e = absurd (omega (arith, eqb-true _ 0 e))
+
+pub last_some : (line : List ℕ) → eqb (length line) 0 ≡ false → last_line line ≡ line ∷ kept_lines [] []
+unfolding last_line kept_lines
+last_some [] e = absurd (eqb-false 0 0 e refl)
+last_some (b ∷ line) e = refl

@@ -1,4 +1,4 @@
-// The input of the script program line by line, and its output through a buffer.
+// The input of the script program line by line, and its output by the page.
 #![tactic(auto)]
 
 pub mod input;

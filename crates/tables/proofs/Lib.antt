@@ -1,3 +1,4 @@
 pub mod Sized
 pub mod Grid
 pub mod Entries
+pub mod Filling

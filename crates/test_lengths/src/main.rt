@@ -5,6 +5,8 @@
 // (tests/calls).
 #![tactic(auto)]
 
+use calls::pace::end_number;
+use calls::refusal::call_number;
 use layout::question::Question as Rectangle;
 use query::{Query, Scan};
 use regions::region::{Kind, Region};
@@ -27,11 +29,13 @@ fn updater_at(stage: Stage) -> Updater {
 }
 
 fn start_update(words: &mut [u32], times: &[i32]) -> u32 {
-    updates::start::start_one(updater_at(Stage::Idle), 0, 1, 100, 100, 0, words, times).number
+    let u = updater_at(Stage::Idle);
+    call_number(&updates::start::start_one(u, 0, 1, 100, 100, 0, words, times))
 }
 
 fn step_update(words: &mut [u32], times: &mut [i32]) -> u32 {
-    updates::step::step_one(updater_at(Stage::TakeObject), 0, words, times).number
+    let u = updater_at(Stage::TakeObject);
+    end_number(updates::step::step_one(u, 0, words, times).map(|s| s.pace))
 }
 
 // What is asked: the point (0, 0), in cell 0.
@@ -59,11 +63,13 @@ fn query_at(stage: Scan) -> Query {
 }
 
 fn start_query(words: &mut [u32], times: &[i32]) -> u32 {
-    queries::start::start_one(query_at(Scan::Idle), 0, question(), words, times).number
+    let q = query_at(Scan::Idle);
+    call_number(&queries::start::start_one(q, 0, question(), words, times))
 }
 
 fn step_query(words: &mut [u32], times: &[i32]) -> u32 {
-    queries::step::step_one(query_at(Scan::Enter(0)), 0, words, times).number
+    let q = query_at(Scan::Enter(0));
+    end_number(queries::step::step_one(q, 0, words, times).map(|s| s.pace))
 }
 
 // Runs the four calls over so many words and stamps.

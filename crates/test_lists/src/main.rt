@@ -4,11 +4,11 @@
 // Of the other two it says that the lane is, and what its query does next follows.
 #![tactic(auto)]
 
+use calls::refusal::call_number;
 use collect::clear::clear;
 use collect::read::{read, read_into};
 use collect::whole::collect;
 use layout::question::Question as Rectangle;
-use queries::lanes::is_idle;
 use query::{Query, Scan};
 use regions::region::{Kind, Region};
 use std::io;
@@ -49,7 +49,7 @@ fn say_reading(rt: &impl Print, name: &str, number: u32, steps: u32, same: bool)
 
 // What a clearing or a collection gave, and whether the query in lane 0 is idle then.
 fn say_lane(rt: &impl Print, name: &str, number: u32, lanes: [Query; 4]) -> io::Result<()> {
-    let state = if is_idle(lanes[0].stage) {
+    let state = if lanes[0].stage == Scan::Idle {
         "idle"
     } else {
         "not idle"
@@ -68,7 +68,9 @@ fn read_list(
     after: &[u32],
 ) -> io::Result<()> {
     let reading = read_into([q; 4], lane, out, deck.words, deck.times);
-    say_reading(rt, name, reading.number, reading.steps, *out == *after)
+    let number = call_number(&reading);
+    let steps = reading.unwrap_or_default().steps;
+    say_reading(rt, name, number, steps, *out == *after)
 }
 
 // A reading into a list of seven numbers, which should stay as it is.
@@ -112,9 +114,10 @@ fn clear_lane(
     hits: u32,
     stage: Scan,
 ) -> io::Result<()> {
-    let q = query_of(hits, stage);
-    let swept = clear([q; 4], lane, deck.words, deck.times);
-    say_lane(rt, name, swept.number, swept.queries)
+    let lanes = [query_of(hits, stage); 4];
+    let cleared = clear(lanes, lane, deck.words, deck.times);
+    let number = call_number(&cleared);
+    say_lane(rt, name, number, cleared.unwrap_or(lanes))
 }
 
 // A collection of a finished query from lane 0.
@@ -125,9 +128,10 @@ fn collect_list(
     hits: u32,
     out: &mut [u32],
 ) -> io::Result<()> {
-    let q = query_of(hits, Scan::Finished);
-    let collected = collect([q; 4], 0, out, deck.words, deck.times);
-    say_lane(rt, name, collected.number, collected.queries)
+    let lanes = [query_of(hits, Scan::Finished); 4];
+    let collected = collect(lanes, 0, out, deck.words, deck.times);
+    let number = call_number(&collected);
+    say_lane(rt, name, number, collected.map_or(lanes, |c| c.queries))
 }
 
 // A word is missing, or a stamp.

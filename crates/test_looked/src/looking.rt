@@ -2,10 +2,9 @@
 // the step finds them: the lane says which slot is next (`Scan::Read`) and how many entries its list has (`hits`); the
 // tuple in that slot is read by `read_tuple`; `is_inside` and `is_seen` say whether it is looked up, as they do in
 // `query::reading`; and `find_hit`, which the step itself calls, looks its object up in the lane's list.
-ghost use Rattle.std.specs.Prelude.{◌<◌};
-
 use base::LIST_SIZE;
 use hits::find_hit;
+use hits::lane::QueryLane;
 use query::{Query, Scan};
 use regions::inside::is_inside;
 use script::line::{Line, QueryLine};
@@ -17,14 +16,17 @@ use words::{HIT_XS, HITS, INDEX, TIMES, TUPLES, WORDS};
 const LIST_XS: usize = HITS + HIT_XS;
 
 // How many of a lane's entries are looked at for an object.
-fn look_up(words: &[u32; WORDS], lane: u32, size: u32, oid: u32) -> Option<usize>
-    requires { lane < 4 }
-{
+fn look_up(words: &[u32; WORDS], lane: QueryLane, size: u32, oid: u32) -> Option<usize> {
     let size = size as usize;
     if size > LIST_SIZE {
         return None;
     }
-    let found = find_hit(&words[HITS..LIST_XS], LIST_SIZE * lane as usize, size, oid);
+    let found = find_hit(
+        &words[HITS..LIST_XS],
+        LIST_SIZE * lane.number as usize,
+        size,
+        oid,
+    );
     Some(found.looked)
 }
 
@@ -32,12 +34,10 @@ fn look_up(words: &[u32; WORDS], lane: u32, size: u32, oid: u32) -> Option<usize
 fn next_looked(
     words: &[u32; WORDS],
     times: &[i32; TIMES],
-    lane: u32,
+    lane: QueryLane,
     q: Query,
     last: Option<usize>,
-) -> Option<usize>
-    requires { lane < 4 }
-{
+) -> Option<usize> {
     let Scan::Read(_, s) = q.stage else {
         return last;
     };
@@ -59,10 +59,11 @@ pub fn line_looked(
     times: &[i32; TIMES],
     last: Option<usize>,
 ) -> Option<usize> {
-    match parse(line) {
-        Some(Line::Query(QueryLine::Step(lane))) if lane < 4 => {
-            next_looked(words, times, lane, queries[lane as usize], last)
-        }
-        _ => last,
-    }
+    let Some(Line::Query(QueryLine::Step(number))) = parse(line) else {
+        return last;
+    };
+    let Some(lane) = QueryLane::new(number) else {
+        return last;
+    };
+    next_looked(words, times, lane, queries[lane.number as usize], last)
 }

@@ -10,12 +10,12 @@ mod looking;
 mod run;
 
 use run::run_calls;
-use std::env::FillError;
+use std::io;
 use std::io::Read;
-use std::rt::{Env, Files};
-use std::{fs, io, str};
+use test_show::files::each_file;
 
-// Reads until the buffer is full, the input ends or a read fails, and tells how many bytes were read.
+// Reads until the buffer is full, the input ends or a read fails, and tells how many bytes were read. How far a read came
+// is known only after it, so there is no range to go over.
 fn read_full<R: Read>(input: &mut R, text: &mut [u8]) -> usize
     ensures { result ≤ length text.new }
 {
@@ -29,30 +29,13 @@ fn read_full<R: Read>(input: &mut R, text: &mut [u8]) -> usize
     done
 }
 
-// Runs the calls of the file with this name. A file has at most 4,096 bytes.
-fn run_named(rt: &(impl Files + Print + Eprint), name: &str) -> io::Result<()> {
-    let mut calls = match fs::open(rt, name) {
-        Ok(calls) => calls,
-        Err(e) => return eprintln!(rt; "{name}: {e}"),
-    };
+// Runs the calls of a file, which has at most 4,096 bytes.
+fn run_file(rt: &impl Print, calls: &mut impl Read) -> io::Result<()> {
     let mut text = [0u8; 4096];
-    let bytes = read_full(&mut calls, &mut text);
-    println!(rt; "# {name}")?;
+    let bytes = read_full(calls, &mut text);
     run_calls(rt, &text[..bytes])
 }
 
-// A name has at most 4,096 bytes.
 fn main(rt: HostRuntime) -> io::Result<()> {
-    let mut path = [0u8; 4096];
-    for i in 1..usize::MAX {
-        match rt.arg(i, &mut path) {
-            Ok(n) => match str::from_utf8(&path[..n]) {
-                Ok(name) => run_named(&rt, name)?,
-                Err(e) => eprintln!(rt; "argument {i}: {e}")?,
-            },
-            Err(FillError::NotPresent) => break,
-            Err(FillError::TooLong) => eprintln!(rt; "argument {i}: too long")?,
-        }
-    }
-    Ok(())
+    each_file(&rt, |mut calls| run_file(&rt, &mut calls))
 }

@@ -3,6 +3,8 @@
 // No contract can say what is printed.
 #![tactic(auto)]
 
+pub mod files;
+
 use std::io;
 
 // Whether tables are as they were.

@@ -2,20 +2,15 @@
 // output. What they must print was not made by this program.
 #![tactic(auto)]
 
-use console::run::run_script;
-use std::env::FillError;
-use std::rt::{Env, Files};
-use std::{fs, io, str};
+use console::run::{Reads, run_script};
+use std::io;
+use std::io::Read;
+use test_show::files::each_file;
 
-// Runs the script with this name.
-fn run_named(rt: &(impl Files + Print + Eprint), name: &str) -> io::Result<()> {
-    let mut script = match fs::open(rt, name) {
-        Ok(script) => script,
-        Err(e) => return eprintln!(rt; "{name}: {e}"),
-    };
-    println!(rt; "# {name}")?;
-    let run = run_script(&mut script, &mut io::writer(rt));
-    if run.reads.is_err() {
+// Runs a script.
+fn run(rt: &(impl Print + Eprint), script: &mut impl Read) -> io::Result<()> {
+    let run = run_script(script, &mut io::writer(rt));
+    if let Reads::Failed(_) = run.reads {
         rt.eprintln("test_vectors: reading failed")?;
     }
     if run.writes.is_err() {
@@ -24,18 +19,6 @@ fn run_named(rt: &(impl Files + Print + Eprint), name: &str) -> io::Result<()> {
     Ok(())
 }
 
-// A name has at most 4,096 bytes.
 fn main(rt: HostRuntime) -> io::Result<()> {
-    let mut path = [0u8; 4096];
-    for i in 1..usize::MAX {
-        match rt.arg(i, &mut path) {
-            Ok(n) => match str::from_utf8(&path[..n]) {
-                Ok(name) => run_named(&rt, name)?,
-                Err(e) => eprintln!(rt; "argument {i}: {e}")?,
-            },
-            Err(FillError::NotPresent) => break,
-            Err(FillError::TooLong) => eprintln!(rt; "argument {i}: too long")?,
-        }
-    }
-    Ok(())
+    each_file(&rt, |mut script| run(&rt, &mut script))
 }

@@ -20,6 +20,7 @@ use words::{TIMES, WORDS};
 use write::{make_room_stage, write_new};
 
 // Does the stage that an updater is at. The owner of the locks it takes is 1 + its number.
+// The stage is data that a lane keeps between two calls, so a match on it is plainer than a closure, which none could keep.
 pub fn step_stage(
     words: &mut [u32; WORDS],
     times: &mut [i32; TIMES],

@@ -1,5 +1,5 @@
 -- THE CALLS OVER ALL LANES ARE THOSE IN ONE: `update_start` and `update_step` are `start_one` and `step_one` in the lane that they name, put among the others.
-use mathlib.Core.Path.{◌≡◌, refl}
+use mathlib.Core.Path.{◌≡◌, refl, sym, ap, ◌∙◌}
 use mathlib.Core.List.{List}
 use Prim.Native.Nat.{ℕ, suc, ◌≤◌}
 use lib.ListN.{get_or}
@@ -36,6 +36,13 @@ module _ (t : Tables) (us : List Updater) (l : ℕ) where
   step_in =
       past idle_updater t us l _ 12 _ _ (past idle_updater t us l _ 1 _ _ (past idle_updater t us l _ 3 _ _
       (steps idle_updater t us l (with_stage lane) (stage_on t (suc l) lane lane.stage))))
+
+  -- a call that is refused leaves the lane as it is, and with it all lanes
+  pub start_stays : (k x y m n : ℕ) (t' : Tables) → after t lane (start_one t l lane k x y m) ≡ after_of n t' lane → after t us (update_start t us l k x y m) ≡ after_of n t' us
+  start_stays k x y m n t' e = start_in k x y m ∙ ap (placed us l) e ∙ sym (stays idle_updater t' us l n)
+
+  pub step_stays : (n : ℕ) (t' : Tables) → after t lane (step_one t l lane) ≡ after_of n t' lane → after t us (update_step t us l) ≡ after_of n t' us
+  step_stays n t' e = step_in ∙ ap (placed us l) e ∙ sym (stays idle_updater t' us l n)
 
   -- a lane that is none
   module _ (h : 8 ≤ l) (n : ℕ) (e : n ≡ pick (right_lengths t) 1 12) where

@@ -10,12 +10,8 @@ ghost use Rattle.tables.specs.Promise.{OnGrid, OnWords};
 ghost use Rattle.updates.specs.Promise.{Starts, StartsOne};
 ghost use Rattle.base.specs.Lent.{seen, lent};
 
-use crate::lanes::{Stepped, SteppedOne, is_idle};
-use base::{
-    CLOCK_EXHAUSTED, CLOCK_SPENT, CORRUPT, Corrupt, DONE, GRID_FULL, LANE_TAKEN, LAST_TAG,
-    MOST_OBJECTS, NO_OBJECT, NO_SUCH_LANE, OFF_GRID, TAG_OVER, UPDATER_COUNT,
-};
-use calls::no_lane;
+use base::{CLOCK_SPENT, Corrupt, LAST_TAG, MOST_OBJECTS, UPDATER_COUNT};
+use calls::refusal::{Refusal, no_lane};
 use index::search::{Search, count_known, enter_at};
 use layout::place::on_grid;
 use stage::{Stage, Updater};
@@ -40,7 +36,9 @@ fn enter_there(words: &mut [u32; WORDS], s: Search, oid: u32) -> Result<(), Corr
     enter_at(&mut words[INDEX..HITS], s, oid)
 }
 
-// Starts an update of an object's place and tag in a lane, given by value. Gives 0, or is refused with 12 (lengths), 1, 2, 4, 5, 31, 7 or 8.
+// Object, place and tag are four parameters of a call, as document 01 and its script have them.
+// Starts an update of an object's place and tag in a lane, given by value. Refused with 12 (lengths), 1, 2, 4, 5, 31, 7
+// or 8, which leaves the lane as it is.
 pub fn start_one(
     u: Updater,
     lane: u32,
@@ -50,86 +48,50 @@ pub fn start_one(
     tag: u32,
     words: &mut [u32],
     times: &[i32],
-) -> SteppedOne
+) -> Result<Updater, Refusal>
     ensures { OnGrid (lent words) (seen times) (StartsOne u lane oid x y tag result) }
 {
     let Some(words) = words.as_mut_array::<WORDS>() else {
-        return SteppedOne {
-            number: CORRUPT,
-            updater: u,
-        };
+        return Err(Refusal::Corrupt);
     };
     if times.len() != TIMES {
-        return SteppedOne {
-            number: CORRUPT,
-            updater: u,
-        };
+        return Err(Refusal::Corrupt);
     }
     if lane >= UPDATER_COUNT {
-        return SteppedOne {
-            number: NO_SUCH_LANE,
-            updater: u,
-        };
+        return Err(Refusal::NoSuchLane);
     }
-    let s = u.stage;
-    if !is_idle(s) {
-        return SteppedOne {
-            number: LANE_TAKEN,
-            updater: u,
-        };
-    }
+    let Stage::Idle = u.stage else {
+        return Err(Refusal::LaneTaken);
+    };
     if oid == 0 {
-        return SteppedOne {
-            number: NO_OBJECT,
-            updater: u,
-        };
+        return Err(Refusal::NoObject);
     }
     if !on_grid(x, y) {
-        return SteppedOne {
-            number: OFF_GRID,
-            updater: u,
-        };
+        return Err(Refusal::OffGrid);
     }
     if tag > LAST_TAG {
-        return SteppedOne {
-            number: TAG_OVER,
-            updater: u,
-        };
+        return Err(Refusal::TagOver);
     }
     let place = seek_object(words, oid);
     if !has_room(words, place) {
-        return SteppedOne {
-            number: GRID_FULL,
-            updater: u,
-        };
+        return Err(Refusal::GridFull);
     }
     if words[CLOCK] >= CLOCK_SPENT {
-        return SteppedOne {
-            number: CLOCK_EXHAUSTED,
-            updater: u,
-        };
+        return Err(Refusal::ClockExhausted);
     }
-    let Ok(()) = enter_there(words, place, oid) else {
-        return SteppedOne {
-            number: CORRUPT,
-            updater: u,
-        };
-    };
-    let stage = Stage::TakeObject;
-    let updater = Updater {
+    enter_there(words, place, oid)?;
+    Ok(Updater {
         oid,
         x,
         y,
         tag,
-        stage,
-    };
-    SteppedOne {
-        number: DONE,
-        updater,
-    }
+        stage: Stage::TakeObject,
+    })
 }
 
 // Starts an update of an object's place and tag in one of the lanes: what `start_one` does there.
+// Written out for each call: the five are lent words and stamps in three ways (to read, one to write, both to write), so
+// that no one type of closure fits them, and a closure with its contract is longer than these lines.
 pub fn update_start(
     updaters: [Updater; 8],
     lane: u32,
@@ -139,21 +101,14 @@ pub fn update_start(
     tag: u32,
     words: &mut [u32],
     times: &[i32],
-) -> Stepped
+) -> Result<[Updater; 8], Refusal>
     ensures { OnGrid (lent words) (seen times) (Starts updaters lane oid x y tag result) }
 {
     if lane >= UPDATER_COUNT {
-        let number = no_lane(words.len(), times.len());
-        return Stepped { number, updaters };
+        return Err(no_lane(words.len(), times.len()));
     }
     let at = lane as usize;
-    let u = updaters[at];
-    let one = start_one(u, lane, oid, x, y, tag, words, times);
-    let v = one.updater;
     let mut next = updaters;
-    next[at] = v;
-    Stepped {
-        number: one.number,
-        updaters: next,
-    }
+    next[at] = start_one(updaters[at], lane, oid, x, y, tag, words, times)?;
+    Ok(next)
 }

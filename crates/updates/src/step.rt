@@ -1,104 +1,74 @@
 // A step of an update (document 01: report step).
-ghost use Rattle.std.specs.Prelude.{◌≡◌};
 ghost use Rattle.base.specs.Lent.{lent};
-ghost use Rattle.updates.specs.Update.{with_stage};
 ghost use Rattle.updates.specs.Promise.{EndsTurn, Steps, StepsOne};
 ghost use Rattle.tables.specs.Promise.{OnGrid};
 
-use crate::lanes::{Stepped, SteppedOne, is_idle};
-use base::{BLOCKED, CORRUPT, LANE_IDLE, NO_SUCH_LANE, Stop, UPDATER_COUNT};
-use calls::no_lane;
+use base::{Stop, UPDATER_COUNT};
+use calls::pace::{Pace, Stepped};
+use calls::refusal::{Refusal, no_lane};
 use stage::{Stage, Turn, Updater};
 use turns::step_stage;
 use words::{TIMES, WORDS};
 
-// The update goes on to a stage.
-fn put_stage(u: Updater, number: u32, s: Stage) -> SteppedOne
-    ensures { (result.number ≡ number) × (result.updater ≡ with_stage u s) }
-{
-    let updater = Updater {
-        oid: u.oid,
-        x: u.x,
-        y: u.y,
-        tag: u.tag,
-        stage: s,
-    };
-    SteppedOne { number, updater }
-}
-
 // What a step gives, from how its stage ended.
-pub fn end_step(u: Updater, turn: Result<Turn, Stop>) -> SteppedOne
+pub fn end_step(u: Updater, turn: Result<Turn, Stop>) -> Result<Stepped<Updater>, Refusal>
     ensures { EndsTurn u turn result }
 {
-    match turn {
-        Err(Stop::Corrupt) => SteppedOne {
-            number: CORRUPT,
-            updater: u,
-        },
-        Err(Stop::Blocked) => SteppedOne {
-            number: BLOCKED,
-            updater: u,
-        },
-        Ok(Turn::Advanced(s)) => put_stage(u, 0, s),
-        Ok(Turn::Restarted) => put_stage(u, 21, Stage::TakeObject),
-        Ok(Turn::Finished) => put_stage(u, 22, Stage::Idle),
-    }
+    let (pace, stage) = match turn {
+        Err(Stop::Corrupt) => return Err(Refusal::Corrupt),
+        Err(Stop::Blocked) => (Pace::Blocked, u.stage),
+        Ok(Turn::Advanced(s)) => (Pace::Moved, s),
+        Ok(Turn::Restarted) => (Pace::Restarted, Stage::TakeObject),
+        Ok(Turn::Finished) => (Pace::Finished, Stage::Idle),
+    };
+    Ok(Stepped {
+        pace,
+        lanes: Updater { stage, ..u },
+    })
 }
 
-// One stage of the update in a lane, given by value. Gives 0, 20, 21 or 22, or is refused with 12 (lengths), 1, 3, or 12 (a stored number).
-pub fn step_one(u: Updater, lane: u32, words: &mut [u32], times: &mut [i32]) -> SteppedOne
+// One stage of the update in a lane, given by value. Refused with 12 (lengths), 1, 3, or 12 (a stored number), which
+// leaves the lane as it is.
+pub fn step_one(
+    u: Updater,
+    lane: u32,
+    words: &mut [u32],
+    times: &mut [i32],
+) -> Result<Stepped<Updater>, Refusal>
     ensures { OnGrid (lent words) (lent times) (StepsOne u lane result) }
 {
     let Some(words) = words.as_mut_array::<WORDS>() else {
-        return SteppedOne {
-            number: CORRUPT,
-            updater: u,
-        };
+        return Err(Refusal::Corrupt);
     };
     let Some(times) = times.as_mut_array::<TIMES>() else {
-        return SteppedOne {
-            number: CORRUPT,
-            updater: u,
-        };
+        return Err(Refusal::Corrupt);
     };
     if lane >= UPDATER_COUNT {
-        return SteppedOne {
-            number: NO_SUCH_LANE,
-            updater: u,
-        };
+        return Err(Refusal::NoSuchLane);
     }
-    let s = u.stage;
-    if is_idle(s) {
-        return SteppedOne {
-            number: LANE_IDLE,
-            updater: u,
-        };
+    if let Stage::Idle = u.stage {
+        return Err(Refusal::LaneIdle);
     }
-    let turn = step_stage(words, times, lane + 1, u);
-    end_step(u, turn)
+    end_step(u, step_stage(words, times, lane + 1, u))
 }
 
 // One stage of the update in one of the lanes: what `step_one` does there.
+// Written out for each call: the five are lent words and stamps in three ways (to read, one to write, both to write), so
+// that no one type of closure fits them, and a closure with its contract is longer than these lines.
 pub fn update_step(
     updaters: [Updater; 8],
     lane: u32,
     words: &mut [u32],
     times: &mut [i32],
-) -> Stepped
+) -> Result<Stepped<[Updater; 8]>, Refusal>
     ensures { OnGrid (lent words) (lent times) (Steps updaters lane result) }
 {
     if lane >= UPDATER_COUNT {
-        let number = no_lane(words.len(), times.len());
-        return Stepped { number, updaters };
+        return Err(no_lane(words.len(), times.len()));
     }
     let at = lane as usize;
-    let u = updaters[at];
-    let one = step_one(u, lane, words, times);
-    let v = one.updater;
-    let mut next = updaters;
-    next[at] = v;
-    Stepped {
-        number: one.number,
-        updaters: next,
-    }
+    let Stepped { pace, lanes: u } = step_one(updaters[at], lane, words, times)?;
+    let mut lanes = updaters;
+    lanes[at] = u;
+    Ok(Stepped { pace, lanes })
 }

@@ -1,5 +1,8 @@
 // The map of the words: where each table begins in the one slice of numbers that a caller lends.
-// A table ends where the next one begins; the pool ends with the slice. The same numbers stand in specs/Map.antt, and nowhere else.
+// A table ends where the next one begins; the pool ends with the slice. The same numbers stand in specs/Map.antt, and
+// nowhere else.
+// Columns, numbers of buckets, and numbers that stand for none, in place of structs, boxes and Options: the memory is lent
+// by the caller and fixed, and there is no heap.
 #![tactic(auto)]
 
 // The lock of each cell, and its first bucket.

@@ -1,5 +1,5 @@
 // Stages 9 and 10 of an update (document 01: the stages of a report): room is made in the new cell, and the tuple is written there.
-// On the words that hold all tables; their number is the caller's to check. The clock is stored last, when nothing can refuse.
+// On the words that hold all tables. The clock is stored last, when nothing can refuse.
 #![tactic(auto, unfolding(crate::specs::Write::stage9, crate::specs::Write::stage10, base::specs::Outcome::need, base::specs::Step::lift, base::specs::Step::turn_tells, base::specs::Step::turn_leaves))]
 
 ghost use Rattle.base.specs.Lent.{lent};

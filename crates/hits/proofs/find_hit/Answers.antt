@@ -1,25 +1,30 @@
--- find_hit answers `look_from`, and counts as `looked_at` says. The loop's invariant: a search of the entries that are
--- not yet passed gives what a search of all gives. It ends with the entries or at a match; the measure is how many are
--- left.
-use mathlib.Core.Path.{sym, ◌∙◌}
+-- find_hit's answers, by whether entries are left and the next one matches.
+use mathlib.Core.Path.{◌≡◌, sym, ap, ◌∙◌}
+use Prim.Native.Nat.{◌+◌, ◌-◌}
 use native.Mathlib.Omega.{arith}
+use Rattle.hits.specs.Hits.{look_from}
 use Rattle.hits.proofs.Look.{look_start, look_end, look_match, look_past, looked_all, looked_match}
 use Rattle.hits.proofs.find_hit.Goals as goal
 
-pub loop-passed-init : goal.loop-passed-init
-loop-passed-init c = (omega arith, look_start _ _ _ _)
+pub loop-left-init : goal.loop-left-init
+loop-left-init c = (omega arith, look_start _ _ _ _)
 
-pub returns-then-passed-size : goal.returns-then-passed-size
-returns-then-passed-size c =
-    let v = c.loop-passed.invariant in
-    let e = v.1 ∙ look_end _ _ _ _ _ (omega (arith, c.if-passed-size.true)) in
-    (sym e, looked_all _ _ _ _ e (omega (arith, v.0)))
+pub returns-then-left-eq0 : goal.returns-then-left-eq0
+returns-then-left-eq0 c =
+    let e = c.loop-left.invariant.1 ∙ look_end _ _ _ _ c.if-left-eq0.true in
+    (sym e, looked_all _ _ _ e)
 
-pub loop-passed-preserved : goal.loop-passed-preserved
-loop-passed-preserved c =
-    (omega arith, c.loop-passed.invariant.1 ∙ look_past _ _ _ _ _ c.if-passed-size.false c.if-hits-from.false)
+pub loop-left-preserved : goal.loop-left-preserved
+loop-left-preserved c =
+    let v = c.loop-left.invariant in
+    let left = c.loop-left.left in
+    let i : c.args.from + c.args.size - left + 1 ≡ c.args.from + c.args.size - (left - 1) = omega (arith, v.0, c.if-left-eq0.false) in (
+      omega (arith, v.0),
+      v.1 ∙ look_past _ _ _ _ (omega (arith, c.if-left-eq0.false)) c.if-hits-end.false
+          ∙ ap (look_from c.args.hits.now c.args.oid (left - 1)) i,
+    )
 
 pub returns : goal.returns
 returns c =
-    let e = c.loop-passed.invariant.1 ∙ look_match _ _ _ _ _ c.if-passed-size.false c.if-hits-from.true in
+    let e = c.loop-left.invariant.1 ∙ look_match _ _ _ _ (omega (arith, c.if-left-eq0.false)) c.if-hits-end.true in
     (sym e, looked_match _ _ _ _ e)

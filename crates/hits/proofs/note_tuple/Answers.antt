@@ -30,7 +30,7 @@ returns-then-t c =
     rw (note_kept (hits_at c.args.list.now) _ _ c.args.t c.if-entries-gt-LIST_SIZE.false _ (sym c.find_hit-found.ensures.0 ∙ c.in-Some.is) c.if-t.true)
 
 pub put_hit-requires-2 : goal.put_hit-requires-2
-put_hit-requires-2 c = (c.requires.0, omega (arith, look_within _ _ _ _ _ (sym c.find_hit-found.ensures.0 ∙ c.in-Some.is)))
+put_hit-requires-2 c = (c.requires, omega (arith, c.args.lane.in_range, look_within _ _ _ _ _ (sym c.find_hit-found.ensures.0 ∙ c.in-Some.is)))
 
 pub returns : goal.returns
 unfolding outcome_map leaves

@@ -1,43 +1,55 @@
 -- run_query does what `run_one` says: one law of Runs.antt for each run that makes no step, else as run_on does.
-use mathlib.Core.Path.{sym, ◌∙◌}
+use mathlib.Core.Path.{ap}
 use Rattle.tables.specs.Grid.{grid}
 use Rattle.tables.proofs.Grid.{right_words_lem, wrong_words, wrong_times}
+use Rattle.queries.specs.Query.{is_idle, is_finished}
+use Rattle.queries.proofs.Cases.{busy, unfinished}
 use Rattle.query_run.proofs.Runs.{run_nothing, run_sizes, run_lane, run_idle, run_finished}
 use Rattle.query_run.proofs.run_query.Goals as goal
 
 pub returns-then-budget-eq0 : goal.returns-then-budget-eq0
-returns-then-budget-eq0 c = run_nothing _ _ (grid c.args.words.now c.args.times.now) _ c.if-budget-eq0.true
+returns-then-budget-eq0 c =
+    rw (c.unmade.ensures.0, c.unmade.ensures.1, c.unmade.ensures.2) (run_nothing _ _ (grid c.args.words.now c.args.times.now) _ c.if-budget-eq0.true)
 
 pub returns-in_default : goal.returns-in_default
 returns-in_default c =
     let w = c.args.words.now in
     let ts = c.args.times.now in
-    run_sizes _ _ (grid w ts) _ c.if-budget-eq0.false (wrong_words w ts c.in_default.ensures.cases)
+    rw (c.unmade-in_default.ensures.0, c.unmade-in_default.ensures.1, c.unmade-in_default.ensures.2) (run_sizes _ _ (grid w ts) _ c.if-budget-eq0.false (wrong_words w ts c.in_default.ensures.cases))
 
 pub returns-in_default-as_array : goal.returns-in_default-as_array
 returns-in_default-as_array c =
     let w = c.args.words.now in
     let ts = c.args.times.now in
-    rw c.in-Some.ensures.cases.same (run_sizes _ _ (grid w ts) _ c.if-budget-eq0.false (wrong_times w ts c.in_default-as_array.ensures.cases))
+    rw (c.in-Some.ensures.cases.same, c.unmade-in_default-as_array.ensures.0, c.unmade-in_default-as_array.ensures.1, c.unmade-in_default-as_array.ensures.2)
+    (run_sizes _ _ (grid w ts) _ c.if-budget-eq0.false (wrong_times w ts c.in_default-as_array.ensures.cases))
 
-pub returns-then-lane-ge-QUERY_COUNT : goal.returns-then-lane-ge-QUERY_COUNT
-returns-then-lane-ge-QUERY_COUNT c =
+pub returns-in_default-new : goal.returns-in_default-new
+returns-in_default-new c =
     let w = c.args.words.now in
     let ts = c.args.times.now in
     let s = right_words_lem w ts c.in-Some.ensures.cases.long c.in-Some-as_array.ensures.cases.long in
-    rw c.in-Some.ensures.cases.same (run_lane _ _ (grid w ts) _ c.if-budget-eq0.false s c.if-lane-ge-QUERY_COUNT.true)
+    rw (c.in-Some.ensures.cases.same, c.unmade-in_default-new.ensures.0, c.unmade-in_default-new.ensures.1, c.unmade-in_default-new.ensures.2)
+    (run_lane _ _ (grid w ts) _ c.if-budget-eq0.false s c.in_default-new.ensures.above)
 
-pub returns-then-is_idle : goal.returns-then-is_idle
-returns-then-is_idle c =
+pub run_on-requires : goal.run_on-requires
+run_on-requires c =
+    (busy _ c.in_default-stage.not-Idle, unfinished _ c.in_default-stage.not-Finished)
+
+pub returns-in-Idle : goal.returns-in-Idle
+unfolding is_idle
+returns-in-Idle c =
     let w = c.args.words.now in
     let ts = c.args.times.now in
     let s = right_words_lem w ts c.in-Some.ensures.cases.long c.in-Some-as_array.ensures.cases.long in
-    rw c.in-Some.ensures.cases.same (run_idle _ _ (grid w ts) _ c.if-budget-eq0.false s c.if-lane-ge-QUERY_COUNT.false (sym c.is_idle.ensures ∙ c.if-is_idle.true))
+    rw (c.in-Some.ensures.cases.same, c.unmade-in-Idle.ensures.0, c.unmade-in-Idle.ensures.1, c.unmade-in-Idle.ensures.2)
+    (run_idle _ _ (grid w ts) _ c.if-budget-eq0.false s (rw c.in-Some-new.ensures.same at c.in-Some-new.at.in_range) (ap is_idle c.in-Idle.is))
 
-pub returns-then-is_finished : goal.returns-then-is_finished
-returns-then-is_finished c =
+pub returns-in-Finished : goal.returns-in-Finished
+unfolding is_idle is_finished
+returns-in-Finished c =
     let w = c.args.words.now in
     let ts = c.args.times.now in
     let s = right_words_lem w ts c.in-Some.ensures.cases.long c.in-Some-as_array.ensures.cases.long in
-    rw c.in-Some.ensures.cases.same (run_finished _ _ (grid w ts) _ c.if-budget-eq0.false s c.if-lane-ge-QUERY_COUNT.false (sym c.is_idle.ensures ∙ c.if-is_idle.false)
-    (sym c.is_finished.ensures ∙ c.if-is_finished.true))
+    rw (c.in-Some.ensures.cases.same, c.unmade-in-Finished.ensures.0, c.unmade-in-Finished.ensures.1, c.unmade-in-Finished.ensures.2)
+    (run_finished _ _ (grid w ts) _ c.if-budget-eq0.false s (rw c.in-Some-new.ensures.same at c.in-Some-new.at.in_range) (ap is_idle c.in-Finished.is) (ap is_finished c.in-Finished.is))

@@ -11,19 +11,19 @@ use Rattle.rest.proofs.Facts.{updaters_all, queries_all}
 use Rattle.rest.proofs.at_rest.Goals as goal
 
 pub returns-else-all : goal.returns-else-all
-unfolding is_at_rest
+unfolding is_at_rest is_idle
 returns-else-all c =
     let us = all_from_yields_List (λ (u : Updater). is_idle u.stage) _ _ c.all.result c.all.ensures.ran
-    (YieldsList-from_slice c.args.updaters cc) (λ x b q k. search (rules, tests)) in
-    let no : updaters_idle c.args.updaters ≡ c.all.result = sym (us ∙ updaters_all c.args.updaters (omega arith)) in
+    (YieldsList-from_slice c.args.lanes.updaters cc) (λ x b q k. search (rules, tests)) in
+    let no : updaters_idle c.args.lanes.updaters ≡ c.all.result = sym (us ∙ updaters_all c.args.lanes.updaters (omega arith)) in
     rw (no, c.if-all.false)
 
 pub returns-then-all : goal.returns-then-all
-unfolding is_at_rest
+unfolding is_at_rest is_idle isIdleQuery
 returns-then-all c =
     let us = all_from_yields_List (λ (u : Updater). is_idle u.stage) _ _ c.all.result c.all.ensures.ran
-    (YieldsList-from_slice c.args.updaters cc) (λ x b q k. search (rules, tests)) in
+    (YieldsList-from_slice c.args.lanes.updaters cc) (λ x b q k. search (rules, tests)) in
     let qs = all_from_yields_List (λ (q : Query). isIdleQuery q.stage) _ _ c.all-then-all.result c.all-then-all.ensures.ran
-    (YieldsList-from_slice c.args.queries cc) (λ x b q k. search (rules, tests)) in
-    let yes : updaters_idle c.args.updaters ≡ c.all.result = sym (us ∙ updaters_all c.args.updaters (omega arith)) in
-    rw (yes, c.if-all.true) (qs ∙ queries_all c.args.queries (omega arith))
+    (YieldsList-from_slice c.args.lanes.queries cc) (λ x b q k. search (rules, tests)) in
+    let yes : updaters_idle c.args.lanes.updaters ≡ c.all.result = sym (us ∙ updaters_all c.args.lanes.updaters (omega arith)) in
+    rw (yes, c.if-all.true) (qs ∙ queries_all c.args.lanes.queries (omega arith))

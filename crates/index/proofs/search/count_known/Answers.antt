@@ -1,5 +1,5 @@
 -- count_known answers `known`: the library's count of the entries that are not 0.
-use mathlib.Core.Path.{◌≡◌, sym, ◌∙◌}
+use mathlib.Core.Path.{◌≡◌, ◌∙◌}
 use Rattle.std.proofs.Common.{rules}
 use Rattle.std.specs.Prelude.{not, ◌==◌, count_by}
 use Rattle.index.proofs.Known.{known_counts}

@@ -1,7 +1,9 @@
 -- step_one does what `step_one` says: one law of Steps.antt for each return, on the tables that were lent.
-use mathlib.Core.Path.{sym, ◌∙◌}
+use mathlib.Core.Path.{ap}
 use Rattle.tables.specs.Grid.{grid}
 use Rattle.tables.proofs.Grid.{right_words_lem, wrong_words, wrong_times}
+use Rattle.queries.specs.Query.{is_idle, is_finished}
+use Rattle.queries.proofs.Cases.{busy, unfinished}
 use Rattle.queries.proofs.Steps.{step_sizes, step_lane, step_idle, step_finished, step_scan}
 use Rattle.queries.proofs.step.step_one.Goals as goal
 
@@ -17,33 +19,34 @@ returns-in_default-as_array c =
     let ts = c.args.times.now in
     rw c.in-Some.ensures.cases.same (step_sizes (grid w ts) _ _ (wrong_times w ts c.in_default-as_array.ensures.cases))
 
-pub returns-then-lane-ge-QUERY_COUNT : goal.returns-then-lane-ge-QUERY_COUNT
-returns-then-lane-ge-QUERY_COUNT c =
+pub returns-in_default-new : goal.returns-in_default-new
+returns-in_default-new c =
     let w = c.args.words.now in
     let ts = c.args.times.now in
     let s = right_words_lem w ts c.in-Some.ensures.cases.long c.in-Some-as_array.ensures.cases.long in
-    rw c.in-Some.ensures.cases.same (step_lane (grid w ts) _ _ s c.if-lane-ge-QUERY_COUNT.true)
+    rw c.in-Some.ensures.cases.same (step_lane (grid w ts) _ _ s c.in_default-new.ensures.above)
 
-pub returns-then-is_idle : goal.returns-then-is_idle
-returns-then-is_idle c =
+pub returns-in-Idle : goal.returns-in-Idle
+unfolding is_idle
+returns-in-Idle c =
     let w = c.args.words.now in
     let ts = c.args.times.now in
     let s = right_words_lem w ts c.in-Some.ensures.cases.long c.in-Some-as_array.ensures.cases.long in
-    rw c.in-Some.ensures.cases.same (step_idle (grid w ts) _ _ s c.if-lane-ge-QUERY_COUNT.false (sym c.is_idle.ensures ∙ c.if-is_idle.true))
+    rw c.in-Some.ensures.cases.same (step_idle (grid w ts) _ _ s (rw c.in-Some-new.ensures.same at c.in-Some-new.at.in_range) (ap is_idle c.in-Idle.is))
 
-pub returns-then-is_finished : goal.returns-then-is_finished
-returns-then-is_finished c =
+pub returns-in-Finished : goal.returns-in-Finished
+unfolding is_idle is_finished
+returns-in-Finished c =
     let w = c.args.words.now in
     let ts = c.args.times.now in
     let s = right_words_lem w ts c.in-Some.ensures.cases.long c.in-Some-as_array.ensures.cases.long in
-    rw c.in-Some.ensures.cases.same (step_finished (grid w ts) _ _ s c.if-lane-ge-QUERY_COUNT.false (sym c.is_idle.ensures ∙ c.if-is_idle.false)
-    (sym c.is_finished.ensures ∙ c.if-is_finished.true))
+    rw c.in-Some.ensures.cases.same (step_finished (grid w ts) _ _ s (rw c.in-Some-new.ensures.same at c.in-Some-new.at.in_range) (ap is_idle c.in-Finished.is) (ap is_finished c.in-Finished.is))
 
-pub returns : goal.returns
-returns c =
+pub returns-in_default-stage : goal.returns-in_default-stage
+returns-in_default-stage c =
     let w = c.args.words.now in
     let ts = c.args.times.now in
     let s = right_words_lem w ts c.in-Some.ensures.cases.long c.in-Some-as_array.ensures.cases.long in
-    let e = rw (c.in-Some.ensures.cases.same, c.in-Some-as_array.ensures.cases.same) at c.scan_step-progress.ensures in
-    step_scan (grid w ts) _ _ s c.if-lane-ge-QUERY_COUNT.false (sym c.is_idle.ensures ∙ c.if-is_idle.false)
-    (sym c.is_finished.ensures ∙ c.if-is_finished.false) c.scan_step-progress.result _ _ _ e c.end_step.ensures.0 c.end_step.ensures.1
+    let e = rw (c.in-Some.ensures.cases.same, c.in-Some-as_array.ensures.cases.same, c.in-Some-new.ensures.same) at c.scan_step.ensures in
+    step_scan (grid w ts) _ _ s (rw c.in-Some-new.ensures.same at c.in-Some-new.at.in_range) (busy _ c.in_default-stage.not-Idle)
+    (unfinished _ c.in_default-stage.not-Finished) c.scan_step.result _ _ e c.end_step.ensures

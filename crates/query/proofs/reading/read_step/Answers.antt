@@ -18,7 +18,7 @@ returns-in_err-map_err c =
     let t = grid c.args.words.now c.args.times.now in
     let z : proper c.args.q.question ≡ false = sym (checked_in_range _ _ c.check_region.ensures) ∙ sym c.in_err-map_err.ensures.variant in
     let p = err_from_is_err_and c.from_residual-in_err-map_err.result c.from_residual-in_err-map_err.ensures.1 in
-    rw (p.1, p.2, read_stray _ _ c.in_ok-next.ensures t.tuples t.hits c.args.lane c.args.cell c.args.s z)
+    rw (p.1, p.2, read_stray _ _ c.in_ok-next.ensures t.tuples t.hits c.args.lane.number c.args.cell c.args.s z)
 
 pub returns-in_err-t : goal.returns-in_err-t
 unfolding turn_tells turn_leaves lift grid
@@ -27,7 +27,7 @@ returns-in_err-t c =
     let z : proper c.args.q.question ≡ true = sym (checked_in_range _ _ c.check_region.ensures) ∙ sym c.in_ok-map_err.ensures.variant in
     let p = err_from_is_err_and c.from_residual-in_err-t.result c.from_residual-in_err-t.ensures.1 in
     let n : c.args.s.left ≡ c.in-Some.slot + 1 = omega (arith, c.in-Some.ensures) in
-    rw (p.1, p.2, read_none _ _ c.in_ok-next.ensures t.tuples t.hits c.args.lane c.args.cell c.args.s c.in-Some.slot z n c.in_err-t.ensures)
+    rw (p.1, p.2, read_none _ _ c.in_ok-next.ensures t.tuples t.hits c.args.lane.number c.args.cell c.args.s c.in-Some.slot z n c.in_err-t.ensures)
 
 pub returns-in_err-hits : goal.returns-in_err-hits
 unfolding grid
@@ -37,8 +37,8 @@ returns-in_err-hits c =
     let z : proper c.args.q.question ≡ true = sym (checked_in_range _ _ c.check_region.ensures) ∙ sym c.in_ok-map_err.ensures.variant in
     let p = err_from_is_err_and c.from_residual-in_err-hits.result c.from_residual-in_err-hits.ensures.1 in
     let n : c.args.s.left ≡ c.in-Some.slot + 1 = omega (arith, c.in-Some.ensures) in
-    rw (p.1, p.2, read_there _ _ c.in_ok-next.ensures t.tuples t.hits c.args.lane c.args.cell c.args.s c.in-Some.slot z n _ c.in_ok-t.ensures)
-    (notes_off w c.args.times.now (search rules) c.consider_tuple.new.list (search rules) c.args.q c.args.cell (standing_of c.args.s.bucket c.in-Some.slot) (consider t.hits c.args.lane c.args.q c.in_ok-t.t) c.in_err-hits.ensures refl)
+    rw (p.1, p.2, read_there _ _ c.in_ok-next.ensures t.tuples t.hits c.args.lane.number c.args.cell c.args.s c.in-Some.slot z n _ c.in_ok-t.ensures)
+    (notes_off w c.args.times.now (search rules) c.consider_tuple.new.list (search rules) c.args.q c.args.cell (standing_of c.args.s.bucket c.in-Some.slot) (consider t.hits c.args.lane.number c.args.q c.in_ok-t.t) c.in_err-hits.ensures refl)
 
 pub returns : goal.returns
 unfolding grid
@@ -47,5 +47,5 @@ returns c =
     let t = grid w c.args.times.now in
     let z : proper c.args.q.question ≡ true = sym (checked_in_range _ _ c.check_region.ensures) ∙ sym c.in_ok-map_err.ensures.variant in
     let n : c.args.s.left ≡ c.in-Some.slot + 1 = omega (arith, c.in-Some.ensures) in
-    rw (more _ _ c.in_ok-next.ensures, read_there _ _ c.in_ok-next.ensures t.tuples t.hits c.args.lane c.args.cell c.args.s c.in-Some.slot z n _ c.in_ok-t.ensures)
-    (notes_on w c.args.times.now (search rules) c.consider_tuple.new.list (search rules) c.args.q c.args.cell (standing_of c.args.s.bucket c.in-Some.slot) (consider t.hits c.args.lane c.args.q c.in_ok-t.t) c.in_ok-hits.ensures refl)
+    rw (more _ _ c.in_ok-next.ensures, read_there _ _ c.in_ok-next.ensures t.tuples t.hits c.args.lane.number c.args.cell c.args.s c.in-Some.slot z n _ c.in_ok-t.ensures)
+    (notes_on w c.args.times.now (search rules) c.consider_tuple.new.list (search rules) c.args.q c.args.cell (standing_of c.args.s.bucket c.in-Some.slot) (consider t.hits c.args.lane.number c.args.q c.in_ok-t.t) c.in_ok-hits.ensures refl)

@@ -1,11 +1,12 @@
 -- update_step does what step_one does in its lane: the laws of Lane.antt.
 use mathlib.Core.Path.{ap, ◌∙◌}
 use mathlib.Core.Bool.{Bool}
+use Rattle.std.proofs.lemmas.Result.{err_from_is_err_and}
 use Rattle.base.specs.Outcome.{pick}
 use Rattle.tables.specs.Grid.{grid}
 use Rattle.tables.proofs.Grid.{grid_lengths}
 use Rattle.calls.specs.Call.{placed}
-use Rattle.updates.proofs.Lane.{step_in, step_none}
+use Rattle.updates.proofs.Lane.{step_in, step_stays, step_none}
 use Rattle.updates.proofs.step.update_step.Goals as goal
 
 pub returns-then-lane-ge-UPDATER_COUNT : goal.returns-then-lane-ge-UPDATER_COUNT
@@ -13,9 +14,14 @@ returns-then-lane-ge-UPDATER_COUNT c =
     let w = c.args.words.now in
     let ts = c.args.times.now in
     step_none (grid w ts) c.args.updaters c.args.lane c.if-lane-ge-UPDATER_COUNT.true _
-    (c.no_lane-number.ensures ∙ ap (λ (b : Bool). pick b 1 12) (grid_lengths w ts))
+    (c.no_lane.ensures ∙ ap (λ (b : Bool). pick b 1 12) (grid_lengths w ts))
+
+pub returns-in_err-pace : goal.returns-in_err-pace
+returns-in_err-pace c =
+    let p = err_from_is_err_and c.from_residual.result c.from_residual.ensures.1 in
+    rw (p.1, p.2) (step_stays (grid c.args.words.now c.args.times.now) c.args.updaters c.args.lane _ _ c.in_err-pace.ensures)
 
 pub returns : goal.returns
 returns c =
     step_in (grid c.args.words.now c.args.times.now) c.args.updaters c.args.lane
-    ∙ ap (placed c.args.updaters c.args.lane) c.step_one-one.ensures
+    ∙ ap (placed c.args.updaters c.args.lane) c.in_ok-pace.ensures
