@@ -43,7 +43,7 @@ pub fn print_collected<const N: usize>(
     print_row(out, &[line, 0, u64::from(steps), u64::from(entries)]);
 }
 
-// An entry: object, x, y, tag.
+// An entry: object, x, y, tag. Four parameters: document 01 and its script name them so.
 #[tactic(auto, using(crate::proofs::Printing::entry_short), unfolding(crate::specs::Answer::entry_line))]
 pub fn print_entry<const N: usize>(out: &mut ArrayVec<u8, N>, oid: u32, x: u32, y: u32, tag: u32)
     requires { array_vec_len out.old + 44 ≤ N }

@@ -32,7 +32,8 @@ pub const CLOCK_SPENT: u32 = 2147483600;
 // The largest tag of an object (document 02: its load mark).
 pub const LAST_TAG: u32 = 9;
 
-// The number of 'no bucket', where a cell or a bucket names the next one.
+// The number of 'no bucket', where a cell or a bucket names the next one. A number and no Option: the tables are fixed
+// memory of numbers, without a heap.
 pub const NO_BUCKET: u32 = 512;
 
 // A stored number is out of its range, or what has to be there is missing: document 01's broken tables.

@@ -94,7 +94,8 @@ pub fn return_bucket(words: &mut [u32; WORDS], bucket: u32) -> Result<(), Stop>
     Ok(())
 }
 
-// Puts an empty bucket first in a cell.
+// Puts an empty bucket first in a cell. That both are in range stays a requires: its one caller has just tested the one
+// and taken the other.
 fn link_bucket(words: &mut [u32; WORDS], cell: u32, bucket: u32)
     requires { (cell < 256) × (bucket < 512) }
     ensures { OnWords (lent words) (λ t t'. t' ≡ linked t cell bucket) }

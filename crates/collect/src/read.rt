@@ -15,6 +15,7 @@ use tables::lengths::right_words;
 use words::{CLOCK, HITS};
 
 // What an accepted reading gives: the steps of the query, and how many numbers of the lent list are filled.
+// The list is the caller's own, as document 01 asks, so how much of it is filled is a number beside it.
 #[derive(Clone, Copy, Debug, Default, PartialEq, Eq)]
 pub struct Reading {
     pub steps: u32,

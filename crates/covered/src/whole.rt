@@ -7,7 +7,8 @@ use layout::question::Question as Rectangle;
 use regions::inside::{is_close, is_deep};
 use regions::region::{Kind, Region};
 
-// How far the farther end of the 1,024 coordinates from first on lies outside an interval.
+// How far the farther end of the 1,024 coordinates from first on lies outside an interval. An interval is two numbers: a
+// struct would be built only to be taken apart.
 fn farthest(low: u32, high: u32, first: u32) -> u32
     requires { first < 16384 }
     ensures { result ≡ max (low - first) (first + 1023 - high) }

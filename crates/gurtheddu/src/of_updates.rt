@@ -1,4 +1,5 @@
 // The calls of updates (document 01: report start, and report steps in a row).
+// Object, place and tag are four parameters, as document 01 and its script have them.
 ghost use Rattle.tables.specs.Promise.{OnGrid};
 ghost use Rattle.base.specs.Lent.{seen, lent};
 ghost use Rattle.calls.specs.Refusals.{call_number, end_number};

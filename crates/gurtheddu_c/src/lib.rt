@@ -1,5 +1,6 @@
 // The exports for programs in C: each is the function of the crate gurtheddu of the same name, with the same promise.
 // The header is include/gurtheddu.h.
+// Object, place and tag are four parameters, as document 01 and its script have them.
 #![tactic(auto)]
 
 ghost use Rattle.base.specs.Lent.{seen, lent};

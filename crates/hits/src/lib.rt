@@ -3,6 +3,7 @@
 // One list of four columns, objects, x, y and tags, of 1,024 numbers each, those of query l from entry 256 × l on. Its
 // length is the caller's to check.
 // A slice: as an array, each caller would have to unwrap a part of the words, with a proof of its length.
+// Columns of numbers: the memory is lent and fixed, and there is no heap.
 #![tactic(auto)]
 
 ghost use Rattle.std.specs.Prelude.{◌≡◌, ◌<◌, ◌≤◌, ◌+◌, length};

@@ -48,6 +48,7 @@ fn answer_call(
 }
 
 // Answers calls, a line each, on an empty grid. The line numbers bound the loop.
+// The place in the text goes from turn to turn: how far a line came is known only after it, so there is no range of it.
 pub fn run_calls(rt: &impl Print, text: &[u8]) -> io::Result<()> {
     let mut words = [0u32; WORDS];
     let mut times = [0i32; TIMES];

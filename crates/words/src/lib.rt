@@ -3,6 +3,7 @@
 // nowhere else.
 // Columns, numbers of buckets, and numbers that stand for none, in place of structs, boxes and Options: the memory is lent
 // by the caller and fixed, and there is no heap.
+// The words and the stamps are lent apart, as two parameters: some calls only read the one.
 #![tactic(auto)]
 
 // The lock of each cell, and its first bucket.
