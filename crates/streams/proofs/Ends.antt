@@ -76,37 +76,38 @@ module _ {E : Type 0} where
 
   -- ---- the next line
 
+  module _ {block line block' line' : List ℕ} {i i' : Input} (q : Result (Option Fetched) E) (out out' : List ℕ)
+      (g : Fetches block line i block' line' i' q) (e : line ≡ []) (w : (out' ≡ out) ⊎ (out' ≡ []))
+      (small : length out' ≤ 5056) where
+    -- what was read, from an empty line on
+    told_fetched : (later : List ℕ) → kept_lines [] (unread block i.next i.filled ++ (joined g.blocks ++ later))
+        ≡ coming q line' (unread block' i'.next i'.filled ++ later)
+    told_fetched later =
+        ap (λ (x : List ℕ). kept_lines x (unread block i.next i.filled ++ (joined g.blocks ++ later))) (sym e)
+        ∙ g.lines later
+
+    -- reading goes on, where the answer leaves to come what the reading does
+    reads_on : (r : Result Fetched Failed) → ((rest : List ℕ) → coming q line' rest ≡ due r line' rest)
+        → NextLine block (Open i) out block' line' (Open i') out' r
+    reads_on r k =
+        record {
+          ready = g.within.filled;
+          few = g.within.few;
+          room = w;
+          small = small;
+          blocks = g.blocks;
+          allowed = λ later h. tt;
+          lines = λ later h. told_fetched later ∙ k (unread block' i'.next i'.filled ++ later);
+        }
+
   pub next_read : {block line block' line' : List ℕ} {i i' : Input} (f : Failed) (q : Result (Option Fetched) E)
       (out out' : List ℕ)
       → Fetches block line i block' line' i' q → line ≡ []
       → (out' ≡ out) ⊎ (out' ≡ []) → length out' ≤ 5056
       → NextLine block (Open i) out block' line' (progress_in q i') out' (answer_in f q line')
-  next_read {block} {line} {block'} {line'} {i} {i'} f (Ok None) out out' g e w small =
-      record {
-        ready = g.within.filled;
-        few = g.within.few;
-        room = w;
-        small = small;
-        blocks = g.blocks;
-        allowed = λ later h. tt;
-        lines =
-            λ later h.
-            ap (λ (x : List ℕ). kept_lines x (unread block i.next i.filled ++ (joined g.blocks ++ later))) (sym e)
-            ∙ g.lines later;
-      }
-  next_read {block} {line} {block'} {line'} {i} {i'} f (Ok (Some Line)) out out' g e w small =
-      record {
-        ready = g.within.filled;
-        few = g.within.few;
-        room = w;
-        small = small;
-        blocks = g.blocks;
-        allowed = λ later h. tt;
-        lines =
-            λ later h.
-            ap (λ (x : List ℕ). kept_lines x (unread block i.next i.filled ++ (joined g.blocks ++ later))) (sym e)
-            ∙ g.lines later;
-      }
+  next_read f (Ok None) out out' g e w small = reads_on (Ok None) out out' g e w small (Err f) (λ rest. refl)
+  next_read f (Ok (Some Line)) out out' g e w small =
+      reads_on (Ok (Some Line)) out out' g e w small (Ok Line) (λ rest. refl)
   next_read {block} {line} {block'} {line'} {i} {i'} f (Ok (Some End)) out out' g e w small =
       let over : i'.filled ≡ 0 = g.ended refl in
       let gone : unread block' i'.next i'.filled ≡ [] = unread_none block' i'.next i'.filled (omega arith) in
@@ -119,24 +120,11 @@ module _ {E : Type 0} where
         allowed = λ later h. tt;
         lines =
             λ later h.
-            ap (λ (x : List ℕ). kept_lines x (unread block i.next i.filled ++ (joined g.blocks ++ later))) (sym e)
-            ∙ g.lines later
+            told_fetched (Ok (Some End)) out out' g e w small later
             ∙ ap (λ (x : List ℕ). kept_lines line' (x ++ later)) gone
             ∙ coming_due f (Ok (Some End)) line' [] later (λ t. refl) (λ t. h);
       }
-  next_read {block} {line} {block'} {line'} {i} {i'} f (Err x) out out' g e w small =
-      record {
-        ready = g.within.filled;
-        few = g.within.few;
-        room = w;
-        small = small;
-        blocks = g.blocks;
-        allowed = λ later h. tt;
-        lines =
-            λ later h.
-            ap (λ (x : List ℕ). kept_lines x (unread block i.next i.filled ++ (joined g.blocks ++ later))) (sym e)
-            ∙ g.lines later;
-      }
+  next_read f (Err x) out out' g e w small = reads_on (Err x) out out' g e w small (Err f) (λ rest. refl)
 
 -- ---- no line was read
 
