@@ -29,6 +29,26 @@ printed_more page n h p =
     ap (λ (l : List ℕ). l ++ (48 + n % 10) ∷ []) p ∙ append_assoc page (decimal_of (n / 10)) ((48 + n % 10) ∷ [])
     ∙ ap (λ (l : List ℕ). page ++ l) (sym (digits_more n h))
 
+-- two digits, and three, one behind the other
+pub printed_two : (page : List ℕ) (n : ℕ) → 10 ≤ n → n < 100
+    → (page ++ (48 + n / 10) ∷ []) ++ (48 + n % 10) ∷ [] ≡ page ++ decimal_of n
+printed_two page n h k = printed_more page n h (printed_one page (n / 10) (omega arith))
+
+pub printed_three : (page : List ℕ) (n : ℕ) → 100 ≤ n → n < 1000
+    → ((page ++ (48 + n / 100) ∷ []) ++ (48 + n / 10 % 10) ∷ []) ++ (48 + n % 10) ∷ [] ≡ page ++ decimal_of n
+printed_three page n h k =
+    let tens : n / 100 ≡ n / 10 / 10 = omega arith in
+    printed_more page n (omega arith)
+    (ap (λ (m : ℕ). (page ++ (48 + m) ∷ []) ++ (48 + n / 10 % 10) ∷ []) tens
+    ∙ printed_two page (n / 10) (omega arith) (omega arith))
+
+-- how many digits there are
+pub two_length : (n : ℕ) → 10 ≤ n → n < 100 → length (decimal_of n) ≡ 2
+two_length n h k = omega (arith, digits_short n h, one-length (n / 10) (omega arith))
+
+pub three_length : (n : ℕ) → 100 ≤ n → n < 1000 → length (decimal_of n) ≡ 3
+three_length n h k = omega (arith, digits_short n (omega arith), two_length (n / 10) (omega arith) (omega arith))
+
 -- ---- lines are rows
 
 pub answer_parts : (l n : ℕ) → closed l 44 ++ closed n 10 ≡ answer_line l n

@@ -30,14 +30,10 @@ pub struct Stepped<L> {
 }
 
 // How many steps a step was that went so: 1 if it was carried out, 0 if it was blocked.
-#[tactic(auto, unfolding(crate::specs::Run::carried_out, base::specs::Outcome::pick))]
 pub fn carried_out(pace: Pace) -> u32
     ensures { (result ≡ carried_out (pace_number pace)) × (result ≤ 1) }
 {
-    match pace {
-        Pace::Moved | Pace::Restarted | Pace::Finished => 1,
-        Pace::Blocked => 0,
-    }
+    crate::carried_out(u32::from(pace))
 }
 
 // The number of a step, or of a run of steps.

@@ -14,7 +14,7 @@ use Rattle.streams.specs.declared.progress.Failed.{Failed}
 use Rattle.streams.specs.declared.progress.Failed.TheVariants.{TooLong}
 use Rattle.streams.specs.declared.progress.Progress.{Progress}
 use Rattle.streams.specs.declared.progress.Progress.TheVariants.{Ended as Over}
-use Rattle.console.specs.Run.{Ran}
+use Rattle.console.specs.Run.{Answered, Ran}
 use Rattle.console.specs.declared.run.Ended.{Ended}
 use Rattle.console.specs.declared.run.Reads.{Reads}
 use Rattle.console.specs.declared.run.Reads.TheVariants.{Whole, Stopped, Failed as Broken}
@@ -35,6 +35,11 @@ none_due r line bytes e = ap (λ (x : Result Fetched Failed). due x line bytes) 
 none_left : (block : List ℕ) (p : Progress) → p ≡ Over → kept_lines [] (left block p ++ []) ≡ []
 unfolding kept_lines last_line
 none_left block p e = ap (λ (x : Progress). kept_lines [] (left block x ++ [])) e
+
+-- the input had ended before the next line: every line was answered
+pub answered_over : (block : List ℕ) (p : Progress) {front page list : List ℕ} {n : ℕ} {g : Grid} (r : Result ⊤ Failed)
+    → Before front n block p page g list → p ≡ Over → Answered front page r
+answered_over block p r s e = sofar_end r s (λ _. none_left block p e)
 
 -- ---- a run that is left
 

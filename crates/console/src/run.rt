@@ -13,18 +13,18 @@ use streams::progress::{Failed, Progress, next_line};
 use words::{TIMES, WORDS};
 
 // How a run's reads ended.
-#[derive(Debug, Drop)]
+#[derive(Clone, Copy, Debug)]
 pub enum Reads {
     // The input was read to its end.
     Whole,
-    // A failed write ended the run, or more lines than a u64 counts.
+    // A failed write ended the run before that, or more lines than a u64 counts.
     Stopped,
     // A read failed.
     Failed(io::Error),
 }
 
 // How a run ended: its reads, and its writes.
-#[derive(Debug, Drop)]
+#[derive(Clone, Copy, Debug)]
 pub struct Ended {
     pub reads: Reads,
     pub writes: io::Result<()>,
@@ -47,6 +47,10 @@ fn answer_lines<R: Read, W: Write>(
     let mut lanes = empty_grid(&mut words, &mut times);
     let mut p = Progress::Open(Input::default());
     for number in 0..u64::MAX {
+        // What stands on the page after the last line is the caller's to write: a failure there is none of the reads.
+        if let Progress::Ended = p {
+            return Ok(());
+        }
         match next_line(input, output, &mut block, &mut line, out, &mut p)? {
             Fetched::Line => {}
             Fetched::End => return Ok(()),

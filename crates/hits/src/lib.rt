@@ -26,7 +26,7 @@ pub struct Lookup {
 
 // Looks an object up in size entries from one on. It ends at the first that matches.
 // Document 01 asks for a loop that yields the entry's index by break. It counts what is left, which
-// takes fewer instructions an entry than counting up to a limit.
+// takes fewer instructions an entry than counting up to a limit; how many entries were looked at is read off that count.
 pub fn find_hit(hits: &[u32], from: usize, size: usize, oid: u32) -> Lookup
     requires { (length hits.now ≡ 1024) × (from + size ≤ 1024) }
     ensures { Finds (look_from hits.now oid size from) size from result }
@@ -37,7 +37,7 @@ pub fn find_hit(hits: &[u32], from: usize, size: usize, oid: u32) -> Lookup
         if left == 0 {
             return Lookup {
                 listed: None,
-                looked: size,
+                looked: size - left,
             };
         }
         if hits[end - left] == oid {
@@ -47,7 +47,7 @@ pub fn find_hit(hits: &[u32], from: usize, size: usize, oid: u32) -> Lookup
     };
     Lookup {
         listed: Some(found),
-        looked: found - from + 1,
+        looked: size - left + 1,
     }
 }
 

@@ -88,9 +88,15 @@ pub fn enter_object(index: &mut [u32], oid: u32) -> Result<(), Corrupt>
     enter_at(index, s, oid)
 }
 
-// How many objects are known.
+// How many objects are known. A loop: the iterator's count of those that a test keeps takes twice the time.
 pub fn count_known(oids: &[u32]) -> usize
     ensures { result ≡ known oids.now }
 {
-    oids.iter().filter(|&&o| o != 0).count()
+    let mut n: usize = 0;
+    for o in oids {
+        if *o != 0 {
+            n += 1;
+        }
+    }
+    n
 }

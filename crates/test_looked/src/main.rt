@@ -12,7 +12,7 @@ mod run;
 use run::run_calls;
 use std::io;
 use std::io::Read;
-use test_show::files::each_file;
+use test_show::files::{each_named, print_name};
 
 // Reads until the buffer is full, the input ends or a read fails, and tells how many bytes were read. How far a read came
 // is known only after it, so there is no range to go over.
@@ -29,13 +29,14 @@ fn read_full<R: Read>(input: &mut R, text: &mut [u8]) -> usize
     done
 }
 
-// Runs the calls of a file, which has at most 4,096 bytes.
-fn run_file(rt: &impl Print, calls: &mut impl Read) -> io::Result<()> {
+// Runs the calls of the file with this name, which has at most 4,096 bytes. It is read before its name is printed.
+fn run_file(rt: &impl Print, name: &str, calls: &mut impl Read) -> io::Result<()> {
     let mut text = [0u8; 4096];
     let bytes = read_full(calls, &mut text);
+    print_name(rt, name)?;
     run_calls(rt, &text[..bytes])
 }
 
 fn main(rt: HostRuntime) -> io::Result<()> {
-    each_file(&rt, |mut calls| run_file(&rt, &mut calls))
+    each_named(&rt, |name, mut calls| run_file(&rt, name, &mut calls))
 }

@@ -33,6 +33,7 @@ fn answer_call(
     rt: &impl Print,
     line: &[u8],
     number: u64,
+    out: &mut Page,
     list: &mut [u32; 1024],
     d: &mut Done,
     words: &mut [u32; WORDS],
@@ -42,8 +43,8 @@ fn answer_call(
         return say_looked(rt, number, d.looked);
     }
     d.looked = line_looked(line, d.lanes.queries, words, times, d.looked);
-    let mut out = Page::new();
-    answer_line(line, number, &mut out, list, &mut d.lanes, words, times);
+    out.clear();
+    answer_line(line, number, out, list, &mut d.lanes, words, times);
     rt.write_all(out.as_slice())
 }
 
@@ -54,6 +55,7 @@ pub fn run_calls(rt: &impl Print, text: &[u8]) -> io::Result<()> {
     let mut times = [0i32; TIMES];
     let mut list = [0u32; 1024];
     let mut line = LineBytes::new();
+    let mut out = Page::new();
     let lanes = empty_grid(&mut words, &mut times);
     let mut d = Done {
         lanes,
@@ -70,6 +72,7 @@ pub fn run_calls(rt: &impl Print, text: &[u8]) -> io::Result<()> {
             rt,
             line.as_slice(),
             number,
+            &mut out,
             &mut list,
             &mut d,
             &mut words,

@@ -12,10 +12,22 @@ pub fn compared(same: bool) -> &'static str {
     if same { "same" } else { "changed" }
 }
 
+// A line, whose name is any bytes.
+pub fn say_bytes(rt: &impl Print, name: &[u8], n: u32) -> io::Result<()> {
+    rt.write_all(name)?;
+    println!(rt; "{n}")
+}
+
+pub fn say_number_bytes(rt: &impl Print, name: &[u8], n: u32, same: bool) -> io::Result<()> {
+    rt.write_all(name)?;
+    println!(rt; "{n}, {}", compared(same))
+}
+
+// A line, whose name is text.
 pub fn say(rt: &impl Print, name: &str, n: u32) -> io::Result<()> {
-    println!(rt; "{name}{n}")
+    say_bytes(rt, name.as_bytes(), n)
 }
 
 pub fn say_number(rt: &impl Print, name: &str, n: u32, same: bool) -> io::Result<()> {
-    println!(rt; "{name}{n}, {}", compared(same))
+    say_number_bytes(rt, name.as_bytes(), n, same)
 }

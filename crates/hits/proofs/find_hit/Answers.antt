@@ -12,7 +12,8 @@ loop-left-init c = (omega arith, look_start _ _ _ _)
 pub returns-then-left-eq0 : goal.returns-then-left-eq0
 returns-then-left-eq0 c =
     let e = c.loop-left.invariant.1 ∙ look_end _ _ _ _ c.if-left-eq0.true in
-    (sym e, looked_all _ _ _ e)
+    let all : c.args.size - c.loop-left.left ≡ c.args.size = omega (arith, c.if-left-eq0.true) in
+    (sym e, all ∙ looked_all _ _ _ e)
 
 pub loop-left-preserved : goal.loop-left-preserved
 loop-left-preserved c =
@@ -27,4 +28,6 @@ loop-left-preserved c =
 pub returns : goal.returns
 returns c =
     let e = c.loop-left.invariant.1 ∙ look_match _ _ _ _ (omega (arith, c.if-left-eq0.false)) c.if-hits-end.true in
-    (sym e, looked_match _ _ _ _ e)
+    let left = c.loop-left.left in
+    let passed : c.args.size - left + 1 ≡ c.args.from + c.args.size - left - c.args.from + 1 = omega (arith, c.loop-left.invariant.0) in
+    (sym e, passed ∙ looked_match _ _ _ _ e)

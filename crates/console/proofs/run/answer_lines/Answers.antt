@@ -4,6 +4,7 @@ use Rattle.streams.specs.declared.input.Fetched.TheVariants.{Line, End}
 use Rattle.tables.specs.Grid.{grid}
 use Rattle.console.proofs.Sizes.{at_start_is, started, answer_asked}
 use Rattle.console.proofs.Sofar.{emptied, sofar_start, sofar_next, sofar_turn, answered_whole, answered_failed}
+use Rattle.console.proofs.Leaving.{answered_over}
 use Rattle.console.proofs.run.answer_lines.Goals as goal
 
 pub loop-number-init : goal.loop-number-init
@@ -15,6 +16,9 @@ loop-number-init g c =
       ready = started _ begun;
       sofar = sofar_start _ _ (at_start_is _ begun) (emptied (grid fresh.new.words fresh.new.times) _ _ fresh.ensures.0 fresh.ensures.1 fresh.ensures.2);
     }
+
+pub returns-in-Ended : goal.returns-in-Ended
+returns-in-Ended g c = answered_over _ _ _ c.loop-number.invariant.sofar c.in-Ended.is
 
 pub returns-in_err-next_line : goal.returns-in_err-next_line
 returns-in_err-next_line g c =
