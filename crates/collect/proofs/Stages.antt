@@ -4,7 +4,7 @@ use mathlib.Core.Bool.{true, false}
 use Rattle.query.specs.declared.Scan.{Scan}
 use Rattle.query.specs.declared.Scan.TheVariants.{Idle, Finished}
 use Rattle.queries.specs.Query.{is_idle, is_finished}
-use Rattle.queries.proofs.Cases.{busy, unfinished}
+use Rattle.queries.proofs.Cases.{busy, not_over}
 
 pub idle_yes : (s : Scan) → s ≡ Idle → is_idle s ≡ true
 unfolding is_idle
@@ -18,4 +18,4 @@ pub over_yes : (s : Scan) → s ≡ Finished → is_finished s ≡ true
 unfolding is_finished
 over_yes s e = rw e
 
-pub ruleset stage_tests = (idle_yes, busy, over_busy, over_yes, unfinished)
+pub ruleset stage_tests = (idle_yes, busy, over_busy, over_yes, not_over)

@@ -39,7 +39,7 @@ places = put CURRENT 1024 (replicate 1024 524288) nexts
 abbrev pub pools : List ℕ
 pools = put POOL 513 fresh places
 
-emptied : (ts : List ℤ) → grid pools ts ≡ with_times empty_tables ts
+pub emptied : (ts : List ℤ) → grid pools ts ≡ with_times empty_tables ts
 unfolding grid empty_tables empty fresh numbers_from
 emptied ts = refl
 

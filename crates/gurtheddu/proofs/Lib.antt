@@ -1,4 +1,5 @@
 mod Ends
+mod Left
 mod Found
 mod Named
 mod OfUpdates

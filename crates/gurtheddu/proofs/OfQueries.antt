@@ -77,7 +77,7 @@ starting t l q u =
     (past _ 8 _ (λ z. omega arith) let_in))))))
 
 -- of the query in the lane only whether it is idle is looked at
-alike : (t : Tables) (l : ℕ) (q p : Query) (u : Region) → is_idle q.stage ≡ is_idle p.stage
+pub alike : (t : Tables) (l : ℕ) (q p : Query) (u : Region) → is_idle q.stage ≡ is_idle p.stage
     → start_one t l q u ≡ start_one t l p u
 unfolding start_one
 alike t l q p u h = rw h

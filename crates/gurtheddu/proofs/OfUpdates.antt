@@ -73,7 +73,7 @@ starting t l u k x y m =
 
 module _ (t : Tables) (ns : List ℕ) (l k x y m : ℕ) where
   -- of the update in the lane only whether it is idle is looked at
-  alike : (u v : Updater) → is_idle u.stage ≡ is_idle v.stage → start_one t l u k x y m ≡ start_one t l v k x y m
+  pub alike : (u v : Updater) → is_idle u.stage ≡ is_idle v.stage → start_one t l u k x y m ≡ start_one t l v k x y m
   unfolding start_one
   alike u v h = rw h
 

@@ -41,21 +41,32 @@ on_hits t o = turned t (lift (with_hits t) o)
 
 module _ (w : List ℕ) (ts : List ℤ) where
   -- nothing changed
-  stays : (o : Outcome (Step Query (List ℕ))) (s : Said Query) (w' : List ℕ) → w' ≡ w → turned (readers_in w) o ≡ (s, readers_in w) → on_readers (grid w ts) o ≡ (s, grid w' ts)
+  pub stays : (o : Outcome (Step Query (List ℕ))) (s : Said Query) (w' : List ℕ) → w' ≡ w → turned (readers_in w) o ≡ (s, readers_in w) → on_readers (grid w ts) o ≡ (s, grid w' ts)
   unfolding grid
   stays o s w' p e = lifted (with_readers (grid w ts)) (readers_in w) o s (readers_in w) e ∙ ap (λ (l : List ℕ). (s, grid l ts)) (sym p)
 
-  -- the readers are those in the words afterwards
-  reads : (o : Outcome (Step Query (List ℕ))) (s : Said Query) → length w ≡ WORDS → (w' : List ℕ) → length w' ≡ WORDS → put_readers w (readers_in w') ≡ w' → turned (readers_in w) o ≡ (s, readers_in w') → on_readers (grid w ts) o ≡ (s, grid w' ts)
+  -- the readers changed
+  pub reads : (o : Outcome (Step Query (List ℕ))) (s : Said Query) → length w ≡ WORDS → (w' rs : List ℕ) → put_readers w rs ≡ w' → length rs ≡ 512 → turned (readers_in w) o ≡ (s, rs) → on_readers (grid w ts) o ≡ (s, grid w' ts)
   unfolding grid
-  reads o s w# w' k p e =
-      lifted (with_readers (grid w ts)) (readers_in w) o s (readers_in w') e
-      ∙ ap (λ (t : Tables). (s, t)) (sym (put_readers_lem w ts w# (readers_in w') (part_length w' READERS 512 (omega arith))) ∙ ap (λ (l : List ℕ). grid l ts) p)
+  reads o s w# w' rs p r# e =
+      lifted (with_readers (grid w ts)) (readers_in w) o s rs e
+      ∙ ap (λ (t : Tables). (s, t)) (sym (put_readers_lem w ts w# rs r#) ∙ ap (λ (l : List ℕ). grid l ts) p)
 
-  -- the same of a step told on all tables
+  -- the readers are those in the words afterwards
   pub reads_there : (o : Outcome (Step Query (List ℕ))) (s : Said Query) → length w ≡ WORDS → (w' : List ℕ) → length w' ≡ length w → put_readers w (readers_in w') ≡ w' → turned (readers_in w) o ≡ (s, readers_in w')
       → turned (grid w ts) (lift (with_readers (grid w ts)) o) ≡ (s, grid w' ts)
-  reads_there o s w# w' k p e = reads o s w# w' (k ∙ w#) p e
+  reads_there o s w# w' k p e = reads o s w# w' (readers_in w') p (part_length w' READERS 512 (omega arith)) e
+
+  module _ (o : Outcome (Step Query Hits)) (s : Said Query) where
+    -- the hits stay as they are
+    pub keeps : turned (hits_at (hits_in w)) o ≡ (s, hits_at (hits_in w)) → on_hits (grid w ts) o ≡ (s, grid w ts)
+    unfolding grid
+    keeps e = lifted (with_hits (grid w ts)) (hits_at (hits_in w)) o s (hits_at (hits_in w)) e
+
+    -- the hits changed
+    pub notes : length w ≡ WORDS → (l : List ℕ) → length l ≡ HITS-SIZE → turned (hits_at (hits_in w)) o ≡ (s, hits_at l) → on_hits (grid w ts) o ≡ (s, grid (put_hits w l) ts)
+    unfolding grid
+    notes w# l l# e = lifted (with_hits (grid w ts)) (hits_at (hits_in w)) o s (hits_at l) e ∙ ap (λ (t : Tables). (s, t)) (sym (put_hits_lem w ts w# l l#))
 
   -- a step that goes on as the query comes to stand
   module _ (w# : length w ≡ WORDS) (w' : List ℕ) (w'# : length w' ≡ WORDS) (q : Query) (c : ℕ) (o : Outcome Reading) where
@@ -71,7 +82,7 @@ module _ (w : List ℕ) (ts : List ℤ) where
       unfolding and_then turn_tells turn_leaves
       stands_on s p =
           let d = stood_in w w' o e w# (w'# ∙ sym w#) s p in
-          reads stands (said 0 (Some (moved q q.hits (Read c s)))) w# w' w'# d.1 (rw d.0)
+          reads_there stands (said 0 (Some (moved q q.hits (Read c s)))) w# w' (w'# ∙ sym w#) d.1 (rw d.0)
 
   -- a step that leaves the last bucket of a chain
   module _ (w# : length w ≡ WORDS) (w' : List ℕ) (w'# : length w' ≡ WORDS) (q : Query) (c b : ℕ) {r : Result ⊤ Broken} (e : ChangesIn put_readers (λ u. take_reader (readers_in u) b) r w w') where
@@ -85,28 +96,24 @@ module _ (w : List ℕ) (ts : List ℤ) where
     unfolding leave_last and_then turn_tells turn_leaves
     taken_on p s a =
         let d = took_done w w' (take_reader (readers_in w) b) e w# (w'# ∙ sym w#) p in
-        reads (leave_last (readers_in w) q c b) (said (scan_number s) (Some (moved q q.hits s))) w# w' w'# d.1 (rw (d.0, ← a))
+        reads_there (leave_last (readers_in w) q c b) (said (scan_number s) (Some (moved q q.hits s))) w# w' (w'# ∙ sym w#) d.1 (rw (d.0, ← a))
 
   -- a step that goes on with what is noted of a tuple
   module _ (w# : length w ≡ WORDS) (l : List ℕ) (l# : length l ≡ HITS-SIZE) (q : Query) (c : ℕ) (s : Standing) (o : Outcome Listing) where
     abbrev noting : Outcome (Step Query Hits)
     noting = and_then o (λ n. goes q n.size (Read c s) n.hits)
 
-    notes : (r : Said Query) → turned (hits_at (hits_in w)) noting ≡ (r, hits_at l) → on_hits (grid w ts) noting ≡ (r, grid (put_hits w l) ts)
-    unfolding grid
-    notes r e = lifted (with_hits (grid w ts)) (hits_at (hits_in w)) noting r (hits_at l) e ∙ ap (λ (t : Tables). (r, t)) (sym (put_hits_lem w ts w# l l#))
-
     module _ {r : Result ℕ Broken} (e : Gives (λ (n : Listing). n.size) (λ (n : Listing). n.hits) (hits_at (hits_in w)) o r (hits_at l)) where
       pub notes_off : {x : Broken} → r ≡ Err x → on_hits (grid w ts) noting ≡ (said 12 None, grid (put_hits w l) ts)
       unfolding and_then turn_tells turn_leaves
       notes_off p =
           let d = noted_corrupt (hits_at (hits_in w)) (hits_at l) o e p in
-          notes (said 12 None) (rw (d.0, d.1))
+          notes noting (said 12 None) w# l l# (rw (d.0, d.1))
 
       pub notes_on : {n : ℕ} → r ≡ Ok n → on_hits (grid w ts) noting ≡ (said 0 (Some (moved q n (Read c s))), grid (put_hits w l) ts)
       unfolding and_then turn_tells turn_leaves
       notes_on {n = n} p =
-          notes (said 0 (Some (moved q n (Read c s)))) (rw (noted_size (hits_at (hits_in w)) (hits_at l) o e n p))
+          notes noting (said 0 (Some (moved q n (Read c s)))) w# l l# (rw (noted_size (hits_at (hits_in w)) (hits_at l) o e n p))
 
 -- a cell after which there is no way on refuses it, whatever becomes of the reader
 pub leave_lost : (l : List ℕ) (q : Query) (c b : ℕ) → corrupt ≡ after_cell q.question c → leave_last l q c b ≡ corrupt

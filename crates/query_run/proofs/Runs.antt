@@ -59,7 +59,7 @@ busy_said (done m) n q b e =
     let w : not (is_idle q.stage) ≡ true = rw y at b in
     not-true (is_idle q.stage) w
 
-stays : (t t' : Tables) (l : ℕ) (q q' : Query) (r : Ended Query Stop) (n : ℕ)
+pub stays : (t t' : Tables) (l : ℕ) (q q' : Query) (r : Ended Query Stop) (n : ℕ)
     → turned t (scan_on t l q q.stage) ≡ (progress_says r, t') → n ≡ (progress_says r).number → q' ≡ next_lanes q (λ (s : Query). s) (progress_says r).next
     → n ≡ 0 → (is_idle q'.stage ≡ false) × (is_finished q'.stage ≡ false)
 stays t t' l q q' (Err Corrupt) n e en eq z = absurd (omega arith)

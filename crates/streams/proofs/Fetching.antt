@@ -48,14 +48,14 @@ kept_few {block} {had} {from = from} k = omega (arith, ap length k.bytes, kept_s
 
 module _ {E : Type 0} where
   -- a block was read: the lines to come are those of it
-  coming_block : (r : Result (Option Fetched) E) (kept bytes : List ℕ) (n : ℕ) → Gives r n
+  pub coming_block : (r : Result (Option Fetched) E) (kept bytes : List ℕ) (n : ℕ) → Gives r n
       → coming r kept bytes ≡ kept_lines kept bytes
   coming_block (Ok None) kept bytes n g = refl
   coming_block (Ok (Some Line)) kept bytes n g = absurd g
   coming_block (Ok (Some End)) kept bytes n g = refl
   coming_block (Err e) kept bytes n g = refl
 
-  ended_block : (r : Result (Option Fetched) E) (n : ℕ) → Gives r n → has_ended r ≡ true → n ≡ 0
+  pub ended_block : (r : Result (Option Fetched) E) (n : ℕ) → Gives r n → has_ended r ≡ true → n ≡ 0
   ended_block (Ok None) n g e = let z : ◌≡◌ {A = ℕ} 0 1 = cc in omega arith
   ended_block (Ok (Some Line)) n g e = absurd g
   ended_block (Ok (Some End)) n g e = g

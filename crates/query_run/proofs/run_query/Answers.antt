@@ -3,7 +3,7 @@ use mathlib.Core.Path.{ap}
 use Rattle.tables.specs.Grid.{grid}
 use Rattle.tables.proofs.Grid.{right_words_lem, wrong_words, wrong_times}
 use Rattle.queries.specs.Query.{is_idle, is_finished}
-use Rattle.queries.proofs.Cases.{busy, unfinished}
+use Rattle.queries.proofs.Cases.{busy, not_over}
 use Rattle.query_run.proofs.Runs.{run_nothing, run_sizes, run_lane, run_idle, run_finished}
 use Rattle.query_run.proofs.run_query.Goals as goal
 
@@ -34,7 +34,7 @@ returns-in_default-new c =
 
 pub run_on-requires : goal.run_on-requires
 run_on-requires c =
-    (busy _ c.in_default-stage.not-Idle, unfinished _ c.in_default-stage.not-Finished)
+    (busy _ c.in_default-stage.not-Idle, not_over _ c.in_default-stage.not-Finished)
 
 pub returns-in-Idle : goal.returns-in-Idle
 unfolding is_idle

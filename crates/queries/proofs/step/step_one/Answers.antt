@@ -3,7 +3,7 @@ use mathlib.Core.Path.{ap}
 use Rattle.tables.specs.Grid.{grid}
 use Rattle.tables.proofs.Grid.{right_words_lem, wrong_words, wrong_times}
 use Rattle.queries.specs.Query.{is_idle, is_finished}
-use Rattle.queries.proofs.Cases.{busy, unfinished}
+use Rattle.queries.proofs.Cases.{busy, not_over}
 use Rattle.queries.proofs.Steps.{step_sizes, step_lane, step_idle, step_finished, step_scan}
 use Rattle.queries.proofs.step.step_one.Goals as goal
 
@@ -49,4 +49,4 @@ returns-in_default-stage c =
     let s = right_words_lem w ts c.in-Some.ensures.cases.long c.in-Some-as_array.ensures.cases.long in
     let e = rw (c.in-Some.ensures.cases.same, c.in-Some-as_array.ensures.cases.same, c.in-Some-new.ensures.same) at c.scan_step.ensures in
     step_scan (grid w ts) _ _ s (rw c.in-Some-new.ensures.same at c.in-Some-new.at.in_range) (busy _ c.in_default-stage.not-Idle)
-    (unfinished _ c.in_default-stage.not-Finished) c.scan_step.result _ _ e c.end_step.ensures
+    (not_over _ c.in_default-stage.not-Finished) c.scan_step.result _ _ e c.end_step.ensures

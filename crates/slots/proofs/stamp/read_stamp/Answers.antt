@@ -14,7 +14,7 @@ returns-then-not-in_range c =
 pub returns-then-s-gt0 : goal.returns-then-s-gt0
 returns-then-s-gt0 c =
     let t : c.unsigned_abs-time.result ≡ nat_abs c.args.s = c.unsigned_abs-time.ensures.value ∙ ap nat_abs (to_z-of_z w32 _ c.ranges.s) in
-    rw t (signs.above _ (rw t at (sym c.if-not-in_range.ensures)) (rw (to_z-of_z w32 _ c.ranges.s) at c.if-s-gt0.true))
+    rw t (signs.above _ (rw (to_z-of_z w32 _ c.ranges.s) at c.if-s-gt0.true))
 
 pub returns : goal.returns
 returns c =
