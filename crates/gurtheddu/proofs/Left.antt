@@ -1,28 +1,26 @@
 -- Which lane an accepted start or clearing leaves in the numbers, known before the call; and a run of no step, which
 -- changes nothing.
-use mathlib.Core.Path.{◌≡◌, sym, ap, ◌∙◌}
+use mathlib.Core.Path.{◌≡◌, sym, ◌∙◌}
 use mathlib.Core.Logic.{◌≢◌}
-use mathlib.Core.Bool.{Bool, true, false}
+use mathlib.Core.Bool.{true}
 use mathlib.Core.List.{List}
 use Prim.Native.Nat.{ℕ, ◌+◌, ◌<◌, ◌≤◌}
-use native.Mathlib.Omega.{arith}
 use lib.Dec.{eqb}
 use borrow.Author.Tests.{lt-ltb, le-leb, eq-eqb}
-use Rattle.base.specs.Outcome.{Outcome, corrupt, blocked, done, pick}
+use Rattle.base.specs.Outcome.{pick}
 use Rattle.regions.specs.Region.{first_visit}
 use Rattle.regions.specs.declared.region.Region.{Region}
 use Rattle.layout.specs.declared.question.Question.{Question as Rectangle}
 use Rattle.layout.specs.declared.question.Visit.{Visit}
-use Rattle.index.specs.Index.{Index}
 use Rattle.stage.specs.Turn.{is_idle}
 use Rattle.stage.specs.declared.Updater.{Updater}
 use Rattle.tables.specs.Tables.{Tables}
 use Rattle.query.specs.Scan.{query_of}
 use Rattle.query.specs.declared.Scan.TheVariants.{Enter}
 use Rattle.query.specs.declared.Query.{Query}
-use Rattle.calls.specs.Call.{Result, refused, answered, After, after, after_of, unless}
+use Rattle.calls.specs.Call.{after, after_of, unless}
 use Rattle.calls.specs.Run.{ran_of}
-use Rattle.updates.specs.One.{started_one, start_one}
+use Rattle.updates.specs.One.{start_one}
 use Rattle.queries.specs.Query.{begun, is_idle as is_idle_query}
 use Rattle.queries.specs.One.{start_one as start_query}
 use Rattle.collect.specs.Collect.{idled}
@@ -31,51 +29,12 @@ use Rattle.codes.specs.Updaters.{stage_in, updater_in, with_updater, started_upd
 use Rattle.codes.specs.Queries.{asked_by, scan_in, names_query, query_in, with_query}
 use Rattle.codes.proofs.Updaters.{lane_seen}
 use Rattle.codes.proofs.Queries.{named_parts, lane_seen as query_seen}
-use Rattle.gurtheddu.proofs.OfUpdates.{alike}
-use Rattle.gurtheddu.proofs.OfQueries.{alike as alike_query}
-use Rattle.gurtheddu.specs.Coded.{coded, start_update, run_update, start_sweep, run_sweep, clear_lane}
-
--- refused with a number that is not 0, or let in with the lane w
-pub data Leaving {L : Type 0} (w : L) : Result L → Type 0 where
-  away : {n : ℕ} → n ≢ 0 → Leaving w (refused n)
-  let_in : {t : Tables} → Leaving w (answered 0 t w)
-
-pub past : {L : Type 0} {w : L} (b : Bool) (n : ℕ) (k : Result L) → n ≢ 0 → Leaving w k → Leaving w (unless b n k)
-unfolding unless
-past true n k z s = s
-past false n k z s = away z
-
-module _ {L : Type 0} (w : L) (store : L → List ℕ) (t : Tables) (u : L) (ns : List ℕ) where
-  -- a call that is refused
-  pub start_away : (r : Result L) → Leaving w r → (n : ℕ) (t' : Tables) (v : L) → after t u r ≡ after_of n t' v → n ≢ 0
-      → after t ns (coded store r) ≡ after_of n t' ns
-  unfolding after coded
-  start_away (refused m) s n t' v e z = ap (λ (a : After L). after_of a.number a.tables ns) e
-  start_away (answered m t'' x) let_in n t' v e z = absurd (z (sym (ap (λ (a : After L). a.number) e)))
-
-  -- and one that is let in: it leaves w
-  pub start_done : (r : Result L) → Leaving w r → (n : ℕ) (t' : Tables) (v : L) → after t u r ≡ after_of n t' v → n ≡ 0
-      → (after t ns (coded store r) ≡ after_of 0 t' (store w)) × (v ≡ w)
-  unfolding after coded
-  start_done (refused m) (away i) n t' v e z = absurd (i (ap (λ (a : After L). a.number) e ∙ z))
-  start_done (answered m t'' x) let_in n t' v e z =
-      (ap (λ (a : After L). after_of 0 a.tables (store w)) e, sym (ap (λ (a : After L). a.lanes) e))
+use Rattle.gurtheddu.proofs.Ends.{start_away, start_done}
+use Rattle.gurtheddu.proofs.OfUpdates.{alike, starting as starting_update}
+use Rattle.gurtheddu.proofs.OfQueries.{alike as alike_query, starting as starting_query, clearing}
+use Rattle.gurtheddu.specs.Coded.{start_update, run_update, start_sweep, run_sweep, clear_lane}
 
 -- ---- a start of an update
-
-entered : (t : Tables) (u : Updater) (o : Outcome Index) → Leaving u (started_one t u o)
-unfolding started_one
-entered t u corrupt = away {n = 12} (λ z. omega arith)
-entered t u blocked = away {n = 12} (λ z. omega arith)
-entered t u (done d) = let_in
-
-starting_update : (t : Tables) (l : ℕ) (u : Updater) (k x y m : ℕ)
-    → Leaving (started_updater k x y m) (start_one t l u k x y m)
-unfolding start_one
-starting_update t l u k x y m =
-    past _ 12 _ (λ z. omega arith) (past _ 1 _ (λ z. omega arith) (past _ 2 _ (λ z. omega arith)
-    (past _ 4 _ (λ z. omega arith) (past _ 5 _ (λ z. omega arith) (past _ 31 _ (λ z. omega arith)
-    (past _ 7 _ (λ z. omega arith) (past _ 8 _ (λ z. omega arith) (entered t _ _))))))))
 
 -- whatever idle update p stands in the lane
 pub start_update_accepted : (t : Tables) (ns : List ℕ) (l k x y m : ℕ) → l < 8 → stage_in ns l ≤ 14
@@ -109,13 +68,6 @@ start_update_refused t ns l k x y m l< g p ip n t' v e i =
     (start_away w (with_updater ns l) t p ns _ (starting_update t l p k x y m) n t' v e i)
 
 -- ---- a start of a query
-
-starting_query : (t : Tables) (l : ℕ) (q : Query) (u : Region) → Leaving (begun u (t.clock + 1)) (start_query t l q u)
-unfolding start_query
-starting_query t l q u =
-    past _ 12 _ (λ z. omega arith) (past _ 1 _ (λ z. omega arith) (past _ 2 _ (λ z. omega arith)
-    (past _ 5 _ (λ z. omega arith) (past _ 6 _ (λ z. omega arith) (past _ 32 _ (λ z. omega arith)
-    (past _ 8 _ (λ z. omega arith) let_in))))))
 
 -- the stamp is read off the lane, the cell is the first of the walk
 pub start_query_accepted : (t : Tables) (ns : List ℕ) (l k : ℕ) (a : Rectangle) (r : ℕ) → l < 4 → names_query ns l ≡ true
@@ -155,12 +107,6 @@ start_query_refused t ns l k a r l< g k≤ u eu p ip n t' v e i =
     (start_away (begun u (t.clock + 1)) (with_query ns l) t p ns _ (starting_query t l p u) n t' v e i)
 
 -- ---- a clearing
-
-clearing : (t : Tables) (l : ℕ) (q : Query) → Leaving (idled q) (clear_one t l q)
-unfolding clear_one
-clearing t l q =
-    past _ 12 _ (λ z. omega arith) (past _ 1 _ (λ z. omega arith) (past _ 3 _ (λ z. omega arith)
-    (past _ 10 _ (λ z. omega arith) let_in)))
 
 -- the lane is idled
 pub clear_done : (t : Tables) (ns : List ℕ) (l : ℕ) → l < 4 → names_query ns l ≡ true → (q : Query) → q ≡ query_in ns l

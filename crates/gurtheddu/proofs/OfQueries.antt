@@ -4,7 +4,7 @@ use mathlib.Core.Path.{◌≡◌, refl, sym, ap, subst, ◌∙◌}
 use mathlib.Core.Logic.{◌≢◌}
 use mathlib.Core.Bool.{Bool, true, false, ◌&&◌}
 use mathlib.Core.List.{List, []}
-use Prim.Native.Nat.{ℕ, ◌*◌, ◌/◌, ◌<◌, ◌≤◌}
+use Prim.Native.Nat.{ℕ, ◌+◌, ◌*◌, ◌/◌, ◌<◌, ◌≤◌}
 use native.Mathlib.Omega.{arith}
 use denote.Param.Members.{Shared}
 use denote.Ref.{Bor}
@@ -29,10 +29,10 @@ use Rattle.calls.specs.Refusals.{refusal_number}
 use Rattle.calls.proofs.Runs.{no_step}
 use Rattle.calls.specs.Run.{ran_of}
 use Rattle.calls.specs.declared.refusal.Refusal.{Refusal}
-use Rattle.queries.specs.Query.{is_idle}
+use Rattle.queries.specs.Query.{begun, is_idle}
 use Rattle.queries.specs.One.{start_one}
 use Rattle.query_run.specs.Run.{run_one}
-use Rattle.collect.specs.Collect.{entries_from}
+use Rattle.collect.specs.Collect.{entries_from, idled}
 use Rattle.collect.specs.declared.read.Reading.{Reading}
 use Rattle.collect.specs.One.{HandedOne, handed_one_of, read_one_of, clear_one, FillingOne, filling_one_of}
 use Rattle.collect.specs.One.{read_one_into}
@@ -69,7 +69,7 @@ module _ {F : Type 0} {g : Shared F (Bor (List ℕ) × Unit {0}) Bool} {f : F}
 
 -- ---- a start
 
-starting : (t : Tables) (l : ℕ) (q : Query) (u : Region) → Starting (start_one t l q u)
+pub starting : (t : Tables) (l : ℕ) (q : Query) (u : Region) → Starting (begun u (t.clock + 1)) (start_one t l q u)
 unfolding start_one
 starting t l q u =
     past _ 12 _ (λ z. omega arith) (past _ 1 _ (λ z. omega arith) (past _ 2 _ (λ z. omega arith)
@@ -203,7 +203,7 @@ module _ (t : Tables) (ns : List ℕ) (l : ℕ) (out : List ℕ) where
 
 -- ---- a clearing
 
-clearing : (t : Tables) (l : ℕ) (q : Query) → Starting (clear_one t l q)
+pub clearing : (t : Tables) (l : ℕ) (q : Query) → Starting (idled q) (clear_one t l q)
 unfolding clear_one
 clearing t l q =
     past _ 12 _ (λ z. omega arith) (past _ 1 _ (λ z. omega arith) (past _ 3 _ (λ z. omega arith)

@@ -28,7 +28,7 @@ use Rattle.calls.specs.declared.refusal.Refusal.{Refusal}
 use Rattle.calls.specs.Run.{ran_of}
 use Rattle.update_run.specs.Run.{run_one}
 use Rattle.updates.specs.One.{started_one, start_one}
-use Rattle.codes.specs.Updaters.{names_stage, stage_in, updater_in, with_updater, code_updater, decode_updater}
+use Rattle.codes.specs.Updaters.{names_stage, stage_in, updater_in, with_updater, started_updater, code_updater, decode_updater}
 use Rattle.codes.proofs.Updaters.{stage_read, lane_seen}
 use Rattle.gurtheddu.specs.Coded.{coded, coded_run, start_update, run_update}
 use Rattle.gurtheddu.specs.Promise.{FoundLane, LostLane}
@@ -58,13 +58,14 @@ module _ {F : Type 0} {g : Shared F (Bor (List ℕ) × Unit {0}) Bool} {f : F}
 
 -- ---- a start
 
-entered : (t : Tables) (u : Updater) (o : Outcome Index) → Starting (started_one t u o)
+entered : (t : Tables) (u : Updater) (o : Outcome Index) → Starting u (started_one t u o)
 unfolding started_one
 entered t u corrupt = away {n = 12} (λ z. omega arith)
 entered t u blocked = away {n = 12} (λ z. omega arith)
 entered t u (done d) = let_in
 
-starting : (t : Tables) (l : ℕ) (u : Updater) (k x y m : ℕ) → Starting (start_one t l u k x y m)
+pub starting : (t : Tables) (l : ℕ) (u : Updater) (k x y m : ℕ)
+    → Starting (started_updater k x y m) (start_one t l u k x y m)
 unfolding start_one
 starting t l u k x y m =
     past _ 12 _ (λ z. omega arith) (past _ 1 _ (λ z. omega arith) (past _ 2 _ (λ z. omega arith)
